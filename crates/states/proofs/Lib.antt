@@ -1,0 +1,15 @@
+pub mod Rows
+pub mod Minimum
+pub mod Least
+pub mod Search
+pub mod Tested
+pub mod Words
+pub mod Fitness
+pub mod Shape
+pub mod Bound
+pub mod Schedules
+pub mod Gaps
+pub mod Overtaking
+pub mod Firsts
+pub mod Sums
+pub mod Charged

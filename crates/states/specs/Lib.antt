@@ -1,0 +1,9 @@
+pub mod Table
+pub mod Envelope
+pub mod Fit
+pub mod Energy
+pub mod Ticks
+pub mod Schedule
+pub mod Laws
+pub mod Gathered
+pub mod Overtake
