@@ -24,9 +24,9 @@ digits-unspaced k word ds before i h e =
     elim (cases-lt i k) [
       | inl l ↦ before i l e
       | inr l ↦ (
-        let d = digit-at (drop k word) (i - k) ds (omega (arith, length-drop k word)) in
-        let at : getD (drop k word) (i - k) 0 ≡ getD word i 0 = getD-drop k word (i - k) 0 ∙ ap (λ (j : ℕ). getD word j 0) (omega arith) in
-        omega (arith, d .0, at))
+          let d = digit-at (drop k word) (i - k) ds (omega (arith, length-drop k word)) in
+          let at : getD (drop k word) (i - k) 0 ≡ getD word i 0 = getD-drop k word (i - k) 0 ∙ ap (λ (j : ℕ). getD word j 0) (omega arith) in
+          omega (arith, d .0, at))
     ]
 
 -- a number has no space in it

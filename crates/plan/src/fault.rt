@@ -47,7 +47,8 @@ fn unfit_words(why: Unfit) -> &'static str {
     match why {
         Unfit::StateCount => "a table has 2 to 16 states",
         Unfit::Number => "a power is at most 1000000, a wake energy 1000000000, a latency 100000",
-        Unfit::Order => "state 0 wakes at no cost, power falls, wake energy rises, latency does not fall",
+        Unfit::Order =>
+            "state 0 wakes at no cost, power falls, wake energy rises, latency does not fall",
     }
 }
 

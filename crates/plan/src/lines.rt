@@ -27,7 +27,10 @@ pub fn gap_line(heap: Global, rows: &FitRows, length: u32) -> Result<String, All
     let energy = rows.energy(length);
     let floor = rows.floor(length);
     let (state, _) = rows.envelope(length);
-    format!(heap, "gap {length} energy {energy} floor {floor} state {state}")
+    format!(
+        heap,
+        "gap {length} energy {energy} floor {floor} state {state}"
+    )
 }
 
 /// The first ticks of the states that have one, from the shallowest on: gap lengths that show each state.

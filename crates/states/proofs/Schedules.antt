@@ -48,6 +48,12 @@ descents-above-floor rows fit (suc n) rule inside down =
 pub within-twice : (rows : List Row) → Fit rows → (gap : ℕ) → Within-twice (floor-of rows gap) (energy-of rows gap)
 within-twice rows fit gap = let s = shape rows fit in least-within-twice rows (s .some) gap (envelope-rule rows) (envelope-follows rows (s .some))
 
+-- to stay awake costs at most 1,000,000 units a tick
+pub floor-low : (rows : List Row) → Fit rows → (gap : ℕ) → floor-of rows gap ≤ 1000000 * gap
+floor-low rows fit gap =
+    let s = shape rows fit in
+    omega (arith, floor-below rows (s .some) gap 0 (s .some), s .start, mul-le-mul-right gap (s .low-power 0 (s .some)))
+
 module _ (rows : List Row) (s : Shape rows) where
   move-is : (i j : ℕ) → move rows i j ≡ wake-at rows i - wake-at rows j
   move-is i j =

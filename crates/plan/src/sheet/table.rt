@@ -18,7 +18,9 @@ impl Sheet {
     pub fn new(heap: Global) -> Sheet
         ensures { λ r. ⌜ sheet-rows r ≡ [] ⌝ }
     {
-        Sheet { rows: Vec::new(heap) }
+        Sheet {
+            rows: Vec::new(heap),
+        }
     }
 
     /// Adds the row of a line of text. Refused, the sheet stays as it was; a row past the sixteenth is refused before

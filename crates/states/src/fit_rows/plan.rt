@@ -5,7 +5,7 @@ use crate::row::Row;
 use crate::state_table::StateTable;
 use crate::unfit::Unfit;
 ghost use mathlib.Core.Path.{_≡_};
-ghost use Prim.Native.Nat.{ℕ, _+_, _-_, _<_, _≤_};
+ghost use Prim.Native.Nat.{ℕ, _+_, _-_, _*_, _<_, _≤_};
 ghost use lib.ListN.{length};
 ghost use Rattle.std.specs.Vec.{made};
 ghost use Rattle.std.specs.Results.{Cases};
@@ -78,6 +78,7 @@ impl FitRows {
         ensures best { λ r. ⌜ Best-schedule (held-rows (now (self .entry) .gathered)) length r ⌝ }
         ensures twice { λ _. ⌜ Least-within-twice (held-rows (now (self .entry) .gathered)) length ⌝ }
         ensures above { λ _. ⌜ Descents-above-floor (held-rows (now (self .entry) .gathered)) length ⌝ }
+        ensures low { λ r. ⌜ r ≤ 1000000 * length ⌝ }
     {
         if length == 0 {
             return 0;

@@ -1,0 +1,5 @@
+mod Layers
+mod Bars
+mod Halves
+mod Quick
+mod Limited

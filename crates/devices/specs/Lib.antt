@@ -1,0 +1,4 @@
+pub mod Meaning
+pub mod Rows
+pub mod Pair
+pub mod Limit
