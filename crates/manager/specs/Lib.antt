@@ -1,0 +1,7 @@
+pub mod Tallying
+pub mod Charges
+pub mod Told
+pub mod Rules
+pub mod Runs
+pub mod Laws
+pub mod Meaning
