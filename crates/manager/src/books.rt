@@ -21,7 +21,7 @@ pub struct Books {
 
 impl Books {
     /// Empty books.
-    pub fn new() -> Books
+    pub(crate) fn new() -> Books
         ensures { λ r. ⌜ r .account ≡ empty ⌝ }
     {
         Books {
@@ -41,14 +41,14 @@ impl Books {
     }
 
     /// The account as it stands.
-    pub fn account(&self) -> Account
+    pub(crate) fn account(&self) -> Account
         ensures { λ r. ⌜ r ≡ now (self .entry) .account ⌝ }
     {
         self.account
     }
 
     /// Charges a busy tick, which holds state 0.
-    pub fn busy_tick(&mut self, energy: u32)
+    pub(crate) fn busy_tick(&mut self, energy: u32)
         requires { ⌜ now self .account .ticks < 1000000 ⌝ }
         ensures { λ _. ⌜ now (self .exit) .account ≡ busy-charge (now (self .entry) .account) energy ⌝ }
     {
@@ -58,7 +58,7 @@ impl Books {
     }
 
     /// Charges a tick of the open gap, and marks the gap if a fault held its move up.
-    pub fn open_tick(&mut self, state: u8, energy: u32, jammed: bool)
+    pub(crate) fn open_tick(&mut self, state: u8, energy: u32, jammed: bool)
         requires { ⌜ now self .account .ticks < 1000000 ⌝ }
         ensures { λ _. ⌜ now (self .exit) .account ≡ open-charge (now (self .entry) .account) state energy jammed ⌝ }
     {
@@ -70,7 +70,7 @@ impl Books {
     }
 
     /// Closes the gap with a wake-up from a state, and answers the gap's energy.
-    pub fn close(&mut self, from: u8, wake: u32, least: u64) -> u64
+    pub(crate) fn close(&mut self, from: u8, wake: u32, least: u64) -> u64
         requires { ⌜ now self .account .gaps < 1000000 ⌝ ∗ ⌜ least ≤ 1000000 * now self .account .length ⌝ }
         ensures energy { λ r. ⌜ r ≡ now (self .entry) .account .pending + wake ⌝ }
         ensures after { λ _. ⌜ now (self .exit) .account ≡ settle (now (self .entry) .account) «from» (now (self .entry) .account .pending + wake) least ⌝ }
@@ -91,7 +91,7 @@ impl Books {
     }
 
     /// Marks the open gap stuck.
-    pub fn mark(&mut self)
+    pub(crate) fn mark(&mut self)
         ensures { λ _. ⌜ now (self .exit) .account ≡ marked (now (self .entry) .account) ⌝ }
     {
         self.account.mark = true;
