@@ -5,3 +5,4 @@ pub mod Rules
 pub mod Runs
 pub mod Laws
 pub mod Meaning
+pub mod Script

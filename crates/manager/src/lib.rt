@@ -5,6 +5,7 @@ mod books;
 mod lease;
 mod manager;
 mod refusal;
+mod script;
 
 pub use account::Account;
 pub use account::Tallies;
@@ -17,3 +18,5 @@ pub use manager::Ticked;
 pub use refusal::Refusal;
 pub use refusal::RefusalFromDevice;
 pub use refusal::Unattached;
+pub use script::Step;
+pub use script::account_after;
