@@ -10,12 +10,12 @@ pub struct Random {
 }
 
 impl Random {
-    pub fn new(start: u64) -> Random {
+    pub(crate) fn new(start: u64) -> Random {
         Random { state: start | 1 }
     }
 
     /// The next number below a bound; 0 for bound 0.
-    pub fn below(&mut self, bound: u64) -> u64 {
+    pub(crate) fn below(&mut self, bound: u64) -> u64 {
         let mut x = self.state;
         x ^= x.wrapping_shl(13);
         x ^= x.wrapping_shr(7);
@@ -77,7 +77,7 @@ fn rows(heap: Global, random: &mut Random) -> Result<Vec<u8>, AllocError> {
 }
 
 impl Shape {
-    pub fn any(heap: Global, random: &mut Random) -> Result<Shape, AllocError> {
+    pub(crate) fn any(heap: Global, random: &mut Random) -> Result<Shape, AllocError> {
         let pile = (random.below(5) & 0xff) as u8;
         let first = rows(heap, random)?;
         let second = rows(heap, random)?;
@@ -113,7 +113,7 @@ fn step(random: &mut Random) -> Step {
 }
 
 /// A list of calls.
-pub fn steps(heap: Global, random: &mut Random) -> Result<Vec<Step>, AllocError> {
+pub(crate) fn steps(heap: Global, random: &mut Random) -> Result<Vec<Step>, AllocError> {
     let mut steps = Vec::new(heap);
     let count = random.below(40);
     for _ in 0..count {

@@ -22,7 +22,7 @@ pub struct Figures {
 }
 
 impl Figures {
-    pub fn empty() -> Figures {
+    pub(crate) fn empty() -> Figures {
         Figures {
             clean: 0,
             floor: 0,
@@ -210,7 +210,7 @@ fn is_fit(levels: &Vec<Level>) -> bool {
 }
 
 impl Plain {
-    pub fn attach(heap: Global, number: u16, shape: &Shape) -> Result<Plain, AllocError> {
+    pub(crate) fn attach(heap: Global, number: u16, shape: &Shape) -> Result<Plain, AllocError> {
         let levels = pile_levels(heap, shape)?;
         let shut = !is_fit(&levels);
         Ok(Plain {
@@ -231,12 +231,12 @@ impl Plain {
     }
 
     /// Whether attach was refused.
-    pub fn is_shut(&self) -> bool {
+    pub(crate) fn is_shut(&self) -> bool {
         self.shut
     }
 
     /// How many clean and how many stuck gaps were closed.
-    pub fn closed_gaps(&self) -> (u32, u32) {
+    pub(crate) fn closed_gaps(&self) -> (u32, u32) {
         let mut clean = 0u32;
         let mut stuck = 0u32;
         for gap in self.closed.iter() {
@@ -329,7 +329,7 @@ impl Plain {
     }
 
     /// Works one call.
-    pub fn take(&mut self, step: Step) -> Result<(), AllocError> {
+    pub(crate) fn take(&mut self, step: Step) -> Result<(), AllocError> {
         if self.shut {
             return Ok(());
         }
@@ -356,7 +356,7 @@ impl Plain {
     }
 
     /// The figures, summed up from what is kept.
-    pub fn figures(&self) -> Figures {
+    pub(crate) fn figures(&self) -> Figures {
         let mut figures = Figures::empty();
         for gap in self.closed.iter() {
             if gap.stuck {
@@ -386,7 +386,7 @@ impl Plain {
 
 /// The energy of a gap on powers 1 and 0 and wake energies 0 and 5, where each tick's state is chosen by the costs so
 /// many ticks before it.
-pub fn gap_of_two(ticks: u64, late: u64) -> u64 {
+pub(crate) fn gap_of_two(ticks: u64, late: u64) -> u64 {
     let mut energy = 0u64;
     let mut deep = false;
     for n in 0..ticks {
