@@ -96,9 +96,14 @@ fn cost(row: &Row, ticks: u64) -> u64 {
 
 // The state of least cost, the shallowest where several are equal, and its cost.
 fn envelope(rows: &[Row], ticks: u64) -> (usize, u64) {
-    let least = rows.iter().map(|row| cost(row, ticks)).min().expect("a table has rows");
-    let state = rows.iter().position(|row| cost(row, ticks) == least).expect("one of them");
-    (state, least)
+    let mut best = (0, cost(&rows[0], ticks));
+    for (state, row) in rows.iter().enumerate() {
+        let here = cost(row, ticks);
+        if here < best.1 {
+            best = (state, here);
+        }
+    }
+    best
 }
 
 struct Run {

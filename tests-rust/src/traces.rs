@@ -66,12 +66,13 @@ fn rows(random: &mut Random) -> Vec<[u32; 3]> {
     rows
 }
 
-fn step(random: &mut Random, number: u16) -> Vec<u8> {
-    let meant = if random.chance(97) { number } else { number ^ 1 };
+// `busy` follows whether a lease is out, so that most traces run on.
+fn step(random: &mut Random, number: u16, busy: &mut bool) -> Vec<u8> {
+    let meant = if random.below(400) > 0 { number } else { number ^ 1 };
     let mut body = meant.to_le_bytes().to_vec();
     match random.below(20) {
         0..=8 => {
-            let count = match random.below(40) {
+            let count = match random.below(2_000) {
                 0 => 400_000,
                 1 => 1_000_000,
                 2 => 1_000_001,
@@ -80,14 +81,18 @@ fn step(random: &mut Random, number: u16) -> Vec<u8> {
             };
             record(3, &count.to_le_bytes())
         }
-        9..=12 => {
-            let length = if random.chance(97) { random.below(17) } else { 17 };
+        9..=16 if *busy ^ (random.below(300) == 0) => {
+            *busy = false;
+            record(5, &body)
+        }
+        9..=16 => {
+            *busy = true;
+            let length = if random.below(500) > 0 { random.below(17) } else { 17 };
             for _ in 0..length {
-                body.push(if random.chance(99) { 33 + random.below(94) as u8 } else { 32 });
+                body.push(if random.below(2_000) > 0 { 33 + random.below(94) as u8 } else { 32 });
             }
             record(4, &body)
         }
-        13..=16 => record(5, &body),
         _ => {
             let code = if random.chance(50) { 0 } else { random.next() as u32 };
             body.extend(code.to_le_bytes());
@@ -120,8 +125,9 @@ pub fn any(random: &mut Random) -> Vec<u8> {
         trace.extend(record(2, &(random.below(12) as u32).to_le_bytes()));
     }
     let steps = if random.chance(5) { 3_000 } else { random.below(40) };
+    let mut busy = false;
     for _ in 0..steps {
-        trace.extend(step(random, number));
+        trace.extend(step(random, number, &mut busy));
     }
     trace.extend(record(7, &[]));
     while random.chance(25) {
