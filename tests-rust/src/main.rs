@@ -1,5 +1,5 @@
-//! An ordinary Rust program that reports on a trace, written from the documents in `docs/` alone, and a comparison of its
-//! reports with those of `envrun`.
+//! An ordinary Rust program that reports on a trace, without the library's code, and a comparison of its reports with
+//! those of `envrun`.
 //!
 //!     tests-rust report < TRACE              the report of one trace
 //!     tests-rust compare ENVRUN COUNT SEED   COUNT pseudo-random traces, valid and damaged, through both
