@@ -1,4 +1,5 @@
 //! Devices: the trait that every make answers by, and the makes.
+#![tactic(auto)]
 mod device;
 mod joined;
 mod latency_limit;

@@ -1,6 +1,7 @@
 //! A second opinion: a naive implementation of tables, piles of devices and the manager, written without the library's
 //! code, beside the library on many pseudo-random tables, piles and lists of calls. Both work each list and each of its
 //! beginnings, and all figures are compared.
+#![tactic(auto)]
 mod cases;
 mod plain;
 

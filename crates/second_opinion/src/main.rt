@@ -1,6 +1,7 @@
 //! A second opinion: a naive implementation of tables, piles of devices, the manager and the report of a trace, written
 //! from the documents without the library's code, beside the library on many pseudo-random piles, lists of calls and
 //! traces. Every answer is compared.
+#![tactic(auto)]
 mod bench;
 mod calls;
 mod library;

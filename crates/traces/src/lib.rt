@@ -1,4 +1,6 @@
 //! Reads a binary trace record by record, without copying it, and says where and why it is refused.
+#![tactic(auto)]
+
 ghost use Rattle.traces.specs.Reading.{Counts, reading};
 ghost use Rattle.traces.specs.Written.{OnlyWritten, ReadsBack};
 

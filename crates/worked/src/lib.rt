@@ -1,4 +1,5 @@
 //! Worked cases, computed by the definitions that the contracts of `states` and `devices` use.
+#![tactic(auto)]
 ghost use Rattle.std.specs.Prelude.{◌≡◌, true};
 ghost use Rattle.worked.specs.Cases.{cases};
 

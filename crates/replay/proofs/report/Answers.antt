@@ -8,32 +8,32 @@ use Rattle.replay.proofs.Starting.{starts}
 use Rattle.replay.proofs.Totals.{lawful}
 use Rattle.replay.proofs.report.Goals as goal
 
-pub returns-in-err-work-trace : goal.returns-in-err-work-trace
-returns-in-err-work-trace c = record { value = search rules; laws = lawful c.args.trace.now }
+pub returns-in_err-work_trace : goal.returns-in_err-work_trace
+returns-in_err-work_trace c = record { value = search rules; laws = lawful c.args.trace.now }
 
-pub returns-in-err-push-stop : goal.returns-in-err-push-stop
-returns-in-err-push-stop c = record { value = search rules; laws = lawful c.args.trace.now }
+pub returns-in_err-push_stop : goal.returns-in_err-push_stop
+returns-in_err-push_stop c = record { value = search rules; laws = lawful c.args.trace.now }
 
-pub work-trace-requires : goal.work-trace-requires
-work-trace-requires c = subst (λ (r : Reading). Starts r.records) (sym c.in-Ok.ensures) (starts c.args.trace.now)
+pub work_trace-requires : goal.work_trace-requires
+work_trace-requires c = subst (λ (r : Reading). Starts r.records) (sym c.in-Ok.ensures) (starts c.args.trace.now)
 
-pub returns-in-ok-work-trace : goal.returns-in-ok-work-trace
-returns-in-ok-work-trace c =
+pub returns-in_ok-work_trace : goal.returns-in_ok-work_trace
+returns-in_ok-work_trace c =
     record {
       value =
-          c.in-ok-work-trace.ensures
+          c.in_ok-work_trace.ensures
           ∙ ap (λ (s : List ℕ). s ++ written (lines_for (ahead c.in-Ok.reader))) c.new-out.ensures.bytes
           ∙ ap (λ (r : Reading). written (lines_for r)) c.in-Ok.ensures;
       laws = lawful c.args.trace.now;
     }
 
-pub returns-in-ok-push-stop : goal.returns-in-ok-push-stop
+pub returns-in_ok-push_stop : goal.returns-in_ok-push_stop
 unfolding lines_for
-returns-in-ok-push-stop c =
+returns-in_ok-push_stop c =
     let place = c.in-Err.refusal.place in
     record {
       value =
-          c.in-ok-push-stop.ensures
+          c.in_ok-push_stop.ensures
           ∙ ap (λ (s : List ℕ). s ++ written (lines.stop place c.number.result ∷ [])) c.new-out.ensures.bytes
           ∙ ap (λ (k : ℕ). written (lines.stop place k ∷ [])) c.number.ensures
           ∙ ap (λ (r : Reading). written (lines_for r)) (sym c.in-Err.ensures);

@@ -11,34 +11,34 @@ use Rattle.traces.proofs.check.Goals as goal
 only : (bs : List ℕ) → ((i : ℕ) → Fits w8 (get_or bs i 0)) → OnlyWritten bs
 only bs h = only_written bs (All-from_get_or _ bs 0 (λ i _. omega (arith, h i)))
 
-pub returns-in-err-reader : goal.returns-in-err-reader
-returns-in-err-reader c =
-    let p = err_from_is_err_and c.from-residual.result c.from-residual.ensures.1 in
+pub returns-in_err-reader : goal.returns-in_err-reader
+returns-in_err-reader c =
+    let p = err_from_is_err_and c.from_residual.result c.from_residual.ensures.1 in
     record {
-      value = subst (λ o. Counts o (reading c.args.trace.now)) (sym p.1) (ap (λ (r : Reading). r.ending) c.in-err-reader.ensures ∙ ap stop (sym p.2));
+      value = subst (λ o. Counts o (reading c.args.trace.now)) (sym p.1) (ap (λ (r : Reading). r.ending) c.in_err-reader.ensures ∙ ap stop (sym p.2));
       back = reads_back;
-      only = only c.args.trace.now c.type-inv.trace;
+      only = only c.args.trace.now c.type_inv.trace;
     }
 
-pub returns-in-err-next : goal.returns-in-err-next
-returns-in-err-next c =
-    let p = err_from_is_err_and c.from-residual-in-err-next.result c.from-residual-in-err-next.ensures.1 in
+pub returns-in_err-next : goal.returns-in_err-next
+returns-in_err-next c =
+    let p = err_from_is_err_and c.from_residual-in_err-next.result c.from_residual-in_err-next.ensures.1 in
     record {
-      value = subst (λ o. Counts o (reading c.args.trace.now)) (sym p.1) (sym c.loop-count.invariant.1 ∙ ap (λ (r : Reading). r.ending) c.in-err-next.ensures.value ∙ ap stop (sym p.2));
+      value = subst (λ o. Counts o (reading c.args.trace.now)) (sym p.1) (sym c.loop-count.invariant.1 ∙ ap (λ (r : Reading). r.ending) c.in_err-next.ensures.value ∙ ap stop (sym p.2));
       back = reads_back;
-      only = only c.args.trace.now c.type-inv.trace;
+      only = only c.args.trace.now c.type_inv.trace;
     }
 
-pub overflow-add-count : goal.overflow-add-count
-overflow-add-count c =
-    let on = rw c.in-Some.is at c.in-ok-next.ensures.moves in
+pub overflow_add-count : goal.overflow_add-count
+overflow_add-count c =
+    let on = rw c.in-Some.is at c.in_ok-next.ensures.moves in
     omega (arith, few_records c.args.trace.now, on)
 
 pub returns : goal.returns
 returns c =
-    let last = rw c.in-default.is at c.in-ok-next.ensures.value in
+    let last = rw c.in_default.is at c.in_ok-next.ensures.value in
     record {
       value = (sym c.loop-count.invariant.1 ∙ ap (λ (r : Reading). r.ending) last, omega (arith, ap (λ (r : Reading). length r.records) last));
       back = reads_back;
-      only = only c.args.trace.now c.type-inv.trace;
+      only = only c.args.trace.now c.type_inv.trace;
     }

@@ -26,7 +26,7 @@ replied m n steps i step old new r h more said e =
 pub loop-step-preserved : goal.loop-step-preserved
 loop-step-preserved g c =
     replied (meaning g.D.StateTable.table g.D.Device.status c.loop-step.manager) _ c.args.steps.now c.loop-step.step-index _ (vec_items c.loop-step.replies) _ c.take.result c.loop-step-test.true
-    c.in-ok-push.ensures.items c.take.ensures.value c.take.ensures.after
+    c.in_ok-push.ensures.items c.take.ensures.value c.take.ensures.after
     ∙ c.loop-step.invariant
 
 pub returns : goal.returns

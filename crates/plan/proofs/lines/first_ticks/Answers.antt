@@ -5,7 +5,7 @@ use Rattle.std.proofs.lemmas.List.{append-nil}
 use Rattle.states.specs.Gathered.{held_rows}
 use Rattle.states.specs.Ticks.{first_tick}
 use Rattle.plan.proofs.lines.first_ticks.Goals as goal
-use Rattle.plan.proofs.lines.first_ticks.Goals.{in-Some+in-ok-push, in-default}
+use Rattle.plan.proofs.lines.first_ticks.Goals.{in-Some+in_ok-push, in_default}
 
 module _ (f : ℕ → List ℕ) (n : ℕ) (whole : List ℕ) where
   -- one state more: what it adds is written behind what there is
@@ -33,10 +33,10 @@ loop-state-init c =
 pub loop-state-preserved : goal.loop-state-preserved
 loop-state-preserved c =
     let rows = held_rows c.args.rows.now.gathered in
-    let step = joined_step (λ s. option_to_list (first_tick rows s)) (length rows) _ (vec_items c.loop-state.ticks) (vec_items c.match-first-tick.ticks) (option_to_list c.first_tick.result) c.loop-state.state (omega (arith, ap length c.rows-state-end.ensures.value)) (ap option_to_list c.first_tick.ensures.value) in
-    elim c.match-first-tick.branch [
-      | in-Some+in-ok-push w ↦ step (ap vec_items w.ticks-is ∙ w.in-ok-push.ensures.items ∙ ap (λ o. vec_items c.loop-state.ticks ++ option_to_list o) (sym w.in-Some.is)) c.loop-state.invariant
-      | in-default w ↦ step (ap vec_items w.ticks-is ∙ sym (append-nil _) ∙ ap (λ o. vec_items c.loop-state.ticks ++ option_to_list o) (sym w.in-default.is)) c.loop-state.invariant
+    let step = joined_step (λ s. option_to_list (first_tick rows s)) (length rows) _ (vec_items c.loop-state.ticks) (vec_items c.match-first_tick.ticks) (option_to_list c.first_tick.result) c.loop-state.state (omega (arith, ap length c.rows-state-end.ensures.value)) (ap option_to_list c.first_tick.ensures.value) in
+    elim c.match-first_tick.branch [
+      | in-Some+in_ok-push w ↦ step (ap vec_items w.ticks-is ∙ w.in_ok-push.ensures.items ∙ ap (λ o. vec_items c.loop-state.ticks ++ option_to_list o) (sym w.in-Some.is)) c.loop-state.invariant
+      | in_default w ↦ step (ap vec_items w.ticks-is ∙ sym (append-nil _) ∙ ap (λ o. vec_items c.loop-state.ticks ++ option_to_list o) (sym w.in_default.is)) c.loop-state.invariant
     ]
 
 pub returns : goal.returns

@@ -10,8 +10,8 @@ returns-in-Table c = search rules
 
 pub unreachable-requires : goal.unreachable-requires
 unreachable-requires c =
-    let o = rw c.in-Some.is at c.in-ok-first.ensures in
-    no_other c.in-Some.first.event (subst (λ (r : Reading). Starts r.records) o.0 c.requires) c.in-default.not-Table
+    let o = rw c.in-Some.is at c.in_ok-first.ensures in
+    no_other c.in-Some.first.event (subst (λ (r : Reading). Starts r.records) o.0 c.requires) c.in_default.not-Table
 
 pub returns-in-None : goal.returns-in-None
 unfolding lines_for

@@ -7,8 +7,8 @@ use Rattle.traces.proofs.decode.is_printable.Goals as goal
 step : (bs : List ℕ) (i : ℕ) → i < length bs → printable (drop i bs) ≡ (leb 33 (get_or bs i 0) && leb (get_or bs i 0) 126 && printable (drop (i + 1) bs))
 step bs i h = at_drop_more printable bs i 0 h
 
-pub returns-then-b-lt-FIRST-PRINTABLE : goal.returns-then-b-lt-FIRST-PRINTABLE
-returns-then-b-lt-FIRST-PRINTABLE c = let s = step c.args.note.now c.loop-b.b-index (omega arith) in grind (arith, nat_tests)
+pub returns-then-b-lt-FIRST_PRINTABLE : goal.returns-then-b-lt-FIRST_PRINTABLE
+returns-then-b-lt-FIRST_PRINTABLE c = let s = step c.args.note.now c.loop-b.b-index (omega arith) in grind (arith, nat_tests)
 
 pub loop-b-preserved : goal.loop-b-preserved
 loop-b-preserved c = let s = step c.args.note.now c.loop-b.b-index (omega arith) in c.loop-b.invariant ∙ (let e : printable (drop c.loop-b.b-index c.args.note.now) ≡ printable (drop (c.loop-b.b-index + 1) c.args.note.now) = grind (arith, nat_tests) in e)

@@ -3,29 +3,29 @@ use Rattle.devices.proofs.Bars.{asked_hold, hold_never, free_answer}
 use Rattle.devices.proofs.Halves.{BothFree, hold_halves, held_together, table_of_halves}
 use Rattle.devices.proofs.joined.JoinedDevice.hold.Given as given
 use Rattle.devices.proofs.joined.JoinedDevice.hold.Goals as goal
-use Rattle.devices.proofs.joined.JoinedDevice.hold.Goals.{In-default}
+use Rattle.devices.proofs.joined.JoinedDevice.hold.Goals.{In_default}
 
 -- past the bar, neither half refuses
-free : (g : given.Over) (c : goal.In-default g) → BothFree (g.A.StateTable.table c.args.self.now.first) (g.B.StateTable.table c.args.self.now.second) (g.A.Device.status c.args.self.now.first) (g.B.Device.status c.args.self.now.second) c.args.state
+free : (g : given.Over) (c : goal.In_default g) → BothFree (g.A.StateTable.table c.args.self.now.first) (g.B.StateTable.table c.args.self.now.second) (g.A.Device.status c.args.self.now.first) (g.B.Device.status c.args.self.now.second) c.args.state
 free g c =
     let j = c.args.self.now in
     let ta = g.A.StateTable.table j.first in
     let tb = g.B.StateTable.table j.second in
     let a = g.A.Device.status j.first in
     let b = g.B.Device.status j.second in
-    hold_halves ta tb a b c.args.state (asked_hold (joined_table ta tb 0 0) (joined_status ta a tb b) c.args.state c.settled.ensures.value c.state.ensures c.deepest.ensures c.fault.ensures c.in-default.ensures)
+    hold_halves ta tb a b c.args.state (asked_hold (joined_table ta tb 0 0) (joined_status ta a tb b) c.args.state c.settled.ensures.value c.state.ensures c.deepest.ensures c.fault.ensures c.in_default.ensures)
 
-pub returns-in-err-hold : goal.returns-in-err-hold
-returns-in-err-hold g c =
+pub returns-in_err-hold : goal.returns-in_err-hold
+returns-in_err-hold g c =
     let d = c.args.self.now.first in
     let to = rw c.deepest-2.ensures at c.min-first.ensures in
-    absurd (hold_never (g.A.StateTable.table d) (g.A.Device.status d) to (free g (goal.at.returns-in-err-hold g c).In-default).first c.in-err-hold.ensures.value)
+    absurd (hold_never (g.A.StateTable.table d) (g.A.Device.status d) to (free g (goal.at.returns-in_err-hold g c).In_default).first c.in_err-hold.ensures.value)
 
-pub returns-in-err-hold-2 : goal.returns-in-err-hold-2
-returns-in-err-hold-2 g c =
+pub returns-in_err-hold-2 : goal.returns-in_err-hold-2
+returns-in_err-hold-2 g c =
     let d = c.args.self.now.second in
     let to = rw c.deepest-3.ensures at c.min-second.ensures in
-    absurd (hold_never (g.B.StateTable.table d) (g.B.Device.status d) to (free g (goal.at.returns-in-err-hold-2 g c).In-default).second c.in-err-hold-2.ensures.value)
+    absurd (hold_never (g.B.StateTable.table d) (g.B.Device.status d) to (free g (goal.at.returns-in_err-hold-2 g c).In_default).second c.in_err-hold-2.ensures.value)
 
 pub returns : goal.returns
 returns g c =
@@ -34,7 +34,7 @@ returns g c =
     let tb = g.B.StateTable.table j.second in
     let a = g.A.Device.status j.first in
     let b = g.B.Device.status j.second in
-    let both = free g (goal.at.returns g c).In-default in
+    let both = free g (goal.at.returns g c).In_default in
     let first = rw c.deepest-2.ensures at c.min-first.ensures in
     let second = rw c.deepest-3.ensures at c.min-second.ensures in
     record {

@@ -11,7 +11,7 @@ returns g c =
     let t = g.D.StateTable.table l.device in
     let s = g.D.Device.status l.device in
     let told = c.hold.ensures in
-    let bar = asked_hold (limited_table t l.limit) (limited_status t s l.limit) c.args.state c.settled.ensures.value c.state.ensures c.deepest.ensures c.fault.ensures c.in-default.ensures in
+    let bar = asked_hold (limited_table t l.limit) (limited_status t s l.limit) c.args.state c.settled.ensures.value c.state.ensures c.deepest.ensures c.fault.ensures c.in_default.ensures in
     record {
       value = hold_answer t s l.limit c.args.state bar told.value;
       after = hold_leaves t s l.limit c.args.state bar told.same told.after;

@@ -11,7 +11,7 @@ returns g c =
     let t = g.D.StateTable.table l.device in
     let s = g.D.Device.status l.device in
     let told = c.wake.ensures in
-    let bar = asked_wake (limited_status t s l.limit) c.settled.ensures.value c.state.ensures c.fault.ensures c.in-default.ensures in
+    let bar = asked_wake (limited_status t s l.limit) c.settled.ensures.value c.state.ensures c.fault.ensures c.in_default.ensures in
     record {
       value = wake_answer t s l.limit bar told.value;
       after = wake_leaves t s l.limit bar told.same told.after;

@@ -10,12 +10,12 @@ use Rattle.manager.specs.Meaning.{rows_in, meaning}
 use Rattle.manager.proofs.Ways.{refused_by, accepted_by, risen_told, closed_up, closing_same}
 use Rattle.manager.proofs.manager.Manager.close.Goals as goal
 
-pub returns-in-err-wake : goal.returns-in-err-wake
-returns-in-err-wake g c =
+pub returns-in_err-wake : goal.returns-in_err-wake
+returns-in_err-wake g c =
     let m = meaning g.D.StateTable.table g.D.Device.status c.args.self.now in
-    let why = c.in-err-wake.field-0.0 in
-    let no-wake = refused_by (wake_refusal m.device) _ (told-by-device why) c.in-err-wake.ensures.value in
-    let p = err_from_is_err_and c.from-residual.result c.from-residual.ensures.1 in
+    let why = c.in_err-wake.field-0.0 in
+    let no-wake = refused_by (wake_refusal m.device) _ (told-by-device why) c.in_err-wake.ensures.value in
+    let p = err_from_is_err_and c.from_residual.result c.from_residual.ensures.1 in
     rw (p.1, p.2) (record {
       value = ap refused (risen_told why) ∙ ap (λ (x : Option Refused). (waking m x).answer) (sym no-wake);
       after = c.rouse.ensures.after ∙ ap (roused m) no-wake ∙ ap (λ (x : Option Refused). (waking m x).after) (sym no-wake);
@@ -24,7 +24,7 @@ returns-in-err-wake g c =
 pub close-energy-requires : goal.close-energy-requires
 close-energy-requires g c =
     let m = meaning g.D.StateTable.table g.D.Device.status c.args.self.now in
-    let woken = accepted_by (wake_refusal m.device) _ c.in-ok-wake.wake c.in-ok-wake.ensures.value in
+    let woken = accepted_by (wake_refusal m.device) _ c.in_ok-wake.wake c.in_ok-wake.ensures.value in
     let same = ap (λ (x : Managed). x.account) (c.rouse.ensures.after ∙ ap (roused m) woken.0) in
     (omega (arith, ap (λ (a : Account). a.gaps) same, c.requires.0), omega (arith, ap (λ (a : Account). a.length) same, ap (λ (a : Account). a.length) c.account-before.ensures, c.floor-floor.ensures.low))
 
@@ -33,7 +33,7 @@ returns g c =
     let m = meaning g.D.StateTable.table g.D.Device.status c.args.self.now in
     let last = meaning g.D.StateTable.table g.D.Device.status c.rouse.new.self in
     let rows = held_rows c.args.rows.gathered in
-    let woken = accepted_by (wake_refusal m.device) _ c.in-ok-wake.wake c.in-ok-wake.ensures.value in
+    let woken = accepted_by (wake_refusal m.device) _ c.in_ok-wake.wake c.in_ok-wake.ensures.value in
     let after = c.rouse.ensures.after ∙ ap (roused m) woken.0 in
     let before = c.account-before.ensures in
     let rows_are : rows ≡ m.rows = ap rows_in (sym c.requires.1) in
@@ -50,5 +50,5 @@ returns g c =
     (c.latency-latency.ensures ∙ ap (λ (i : ℕ). (at m.table i).latency) c.state-from.ensures) in
     record {
       value = ap closed answer ∙ ap (λ (x : Option Refused). (waking m x).answer) (sym woken.0);
-      after = closed_up m last rows c.close-energy.new.self.account c.state-from.result c.in-ok-wake.wake c.floor-floor.result after rows_are c.state-from.ensures woken.1 least c.close-energy.ensures.after ∙ ap (λ (x : Option Refused). (waking m x).after) (sym woken.0);
+      after = closed_up m last rows c.close-energy.new.self.account c.state-from.result c.in_ok-wake.wake c.floor-floor.result after rows_are c.state-from.ensures woken.1 least c.close-energy.ensures.after ∙ ap (λ (x : Option Refused). (waking m x).after) (sym woken.0);
     }

@@ -9,22 +9,22 @@ use Rattle.manager.proofs.Ways.{idle_limit, busy_limit, idle_goes, busy_goes}
 use Rattle.manager.proofs.Keeps.{tick_keeps}
 use Rattle.manager.proofs.manager.Manager.tick.Goals as goal
 
-pub returns-then-before-ge-MAX-TICKS : goal.returns-then-before-ge-MAX-TICKS
-returns-then-before-ge-MAX-TICKS g c =
+pub returns-then-before-ge-MAX_TICKS : goal.returns-then-before-ge-MAX_TICKS
+returns-then-before-ge-MAX_TICKS g c =
     let m = meaning g.D.StateTable.table g.D.Device.status c.args.self.now in
     let way = idle_limit m (ap condition_of c.in-Idle.is) (omega (arith, ap (λ (a : Account). a.ticks) c.account-before.ensures)) in
     let after = ap (λ (o : Outcome). o.after) (sym way) in
     record { value = ap (λ (o : Outcome). o.answer) (sym way); after = after; keeps = tick_keeps m m after }
 
-pub returns-then-before-ge-MAX-TICKS-2 : goal.returns-then-before-ge-MAX-TICKS-2
-returns-then-before-ge-MAX-TICKS-2 g c =
+pub returns-then-before-ge-MAX_TICKS-2 : goal.returns-then-before-ge-MAX_TICKS-2
+returns-then-before-ge-MAX_TICKS-2 g c =
     let m = meaning g.D.StateTable.table g.D.Device.status c.args.self.now in
     let way = busy_limit m (ap condition_of c.in-Busy.is) (omega (arith, ap (λ (a : Account). a.ticks) c.account-before.ensures)) in
     let after = ap (λ (o : Outcome). o.after) (sym way) in
     record { value = ap (λ (o : Outcome). o.answer) (sym way); after = after; keeps = tick_keeps m m after }
 
-pub returns-else-before-ge-MAX-TICKS : goal.returns-else-before-ge-MAX-TICKS
-returns-else-before-ge-MAX-TICKS g c =
+pub returns-else-before-ge-MAX_TICKS : goal.returns-else-before-ge-MAX_TICKS
+returns-else-before-ge-MAX_TICKS g c =
     let m = meaning g.D.StateTable.table g.D.Device.status c.args.self.now in
     let rows = held_rows c.in-Idle.rows.gathered in
     let n = c.account-before.result.length + 1 in
@@ -34,8 +34,8 @@ returns-else-before-ge-MAX-TICKS g c =
     let after = c.idle_tick.ensures.after ∙ ap (λ (o : Outcome). o.after) (sym way) in
     record { value = c.idle_tick.ensures.value ∙ ap (λ (o : Outcome). o.answer) (sym way); after = after; keeps = tick_keeps m _ after }
 
-pub returns-else-before-ge-MAX-TICKS-2 : goal.returns-else-before-ge-MAX-TICKS-2
-returns-else-before-ge-MAX-TICKS-2 g c =
+pub returns-else-before-ge-MAX_TICKS-2 : goal.returns-else-before-ge-MAX_TICKS-2
+returns-else-before-ge-MAX_TICKS-2 g c =
     let m = meaning g.D.StateTable.table g.D.Device.status c.args.self.now in
     let way = busy_goes m (ap condition_of c.in-Busy.is) (omega (arith, ap (λ (a : Account). a.ticks) c.account-before.ensures)) in
     let after = c.busy_tick.ensures.after ∙ ap (λ (o : Outcome). o.after) (sym way) in

@@ -14,8 +14,8 @@ returns g c =
     let a = (stands g.D.StateTable.table g.D.Device.status c.args.self.now).account in
     let e = shown_is c.figures-account.result a c.figures-account.ensures.value in
     let before = string_bytes c.args.out.now in
-    IfOk-weaker c.push-end.result _ _
-    (λ _ h. h ∙ ap (λ (s : List ℕ). s ++ lines.text lines.end) c.in-ok-push-total.ensures
+    IfOk-weaker c.push_end.result _ _
+    (λ _ h. h ∙ ap (λ (s : List ℕ). s ++ lines.text lines.end) c.in_ok-push_total.ensures
     ∙ append_assoc before (lines.text (lines.total c.figures-account.result)) (lines.text lines.end)
     ∙ ap (λ (x : Account). before ++ (lines.text (lines.total x) ++ lines.text lines.end)) e)
-    c.push-end.ensures
+    c.push_end.ensures

@@ -12,10 +12,10 @@ returns-else-branch-2 g c =
     let m = stands g.D.StateTable.table g.D.Device.status c.args.self.now in
     let n = stands g.D.StateTable.table g.D.Device.status c.step.new.self in
     let x : ℕ × Item = (c.args.first.offset, item c.args.first.event) in
-    let one = c.in-ok-step.ensures in
-    let all = c.in-ok-advance.ensures.value in
+    let one = c.in_ok-step.ensures in
+    let all = c.in_ok-advance.ensures.value in
     record {
-      ready = c.in-ok-advance.ensures.ready;
+      ready = c.in_ok-advance.ensures.ready;
       value =
           sym (append-nil (string_bytes c.advance.new.out))
           ∙ ap (λ (on : Bool). string_bytes c.advance.new.out ++ cond on (written (run_on (stands g.D.StateTable.table g.D.Device.status c.advance.new.self) (ahead c.advance.new.reader))) []) (sym c.if-branch-2.false)
@@ -28,7 +28,7 @@ returns-else-branch g c =
     let m = stands g.D.StateTable.table g.D.Device.status c.args.self.now in
     let n = stands g.D.StateTable.table g.D.Device.status c.step.new.self in
     let x : ℕ × Item = (c.args.first.offset, item c.args.first.event) in
-    let one = c.in-ok-step.ensures in
+    let one = c.in_ok-step.ensures in
     record {
       ready = one.ready;
       value =

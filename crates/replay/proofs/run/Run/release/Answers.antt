@@ -12,13 +12,13 @@ use Rattle.manager.proofs.Keeps.{frees}
 use Rattle.replay.proofs.Records.{astray_says, astray_leaves, course_says, course_leaves}
 use Rattle.replay.proofs.run.Run.release.Goals as goal
 
-pub returns-in-err-owns : goal.returns-in-err-owns
-returns-in-err-owns g c =
+pub returns-in_err-owns : goal.returns-in_err-owns
+returns-in_err-owns g c =
     let m = stands g.D.StateTable.table g.D.Device.status c.args.self.now in
     let x = layout.release c.args.number in
-    let e = not_from_false _ (ne_eqb c.args.number m.number (λ h. c.in-err-owns.ensures.0 (h ∙ sym c.requires.number))) in
-    let p = err_from_is_err_and c.from-residual.result c.from-residual.ensures.1 in
-    record { ready = c.requires; value = ap told p.1 ∙ ap (λ (h : Halt). halt h.number) p.2 ∙ ap halt c.in-err-owns.ensures.1 ∙ sym (astray_says m x e); after = sym (astray_leaves m x e) }
+    let e = not_from_false _ (ne_eqb c.args.number m.number (λ h. c.in_err-owns.ensures.0 (h ∙ sym c.requires.number))) in
+    let p = err_from_is_err_and c.from_residual.result c.from_residual.ensures.1 in
+    record { ready = c.requires; value = ap told p.1 ∙ ap (λ (h : Halt). halt h.number) p.2 ∙ ap halt c.in_err-owns.ensures.1 ∙ sym (astray_says m x e); after = sym (astray_leaves m x e) }
 
 pub unreachable-requires : goal.unreachable-requires
 unreachable-requires g c =
@@ -30,7 +30,7 @@ pub returns-in-Ok : goal.returns-in-Ok
 returns-in-Ok g c =
     let m = stands g.D.StateTable.table g.D.Device.status c.args.self.now in
     let x = layout.release c.args.number in
-    let e = not_from_true _ (eq-eqb c.args.number m.number (c.in-ok-owns.ensures ∙ c.requires.number)) in
+    let e = not_from_true _ (eq-eqb c.args.number m.number (c.in_ok-owns.ensures ∙ c.requires.number)) in
     let h = subst (Out m) (sym c.in-Some.ensures.value) c.requires.out in
     let own = frees m m.number m.account.gaps (record { condition = h.condition; number = refl; gaps = refl }) in
     let went = c.in-Ok.ensures.after ∙ ap (λ (o : Outcome). o.after) (frees m _ _ h) in

@@ -9,13 +9,13 @@ use Rattle.manager.proofs.Keeps.{tick_terms, tick_still, ticks_still}
 use Rattle.replay.proofs.Records.{still_ready}
 use Rattle.replay.proofs.run.Run.ticks.Goals as goal
 
-pub returns-in-err-tick : goal.returns-in-err-tick
-returns-in-err-tick g c =
+pub returns-in_err-tick : goal.returns-in_err-tick
+returns-in_err-tick g c =
     let m = stands g.D.StateTable.table g.D.Device.status c.loop-turn.self in
     let k = c.args.count - (c.loop-turn.turn + 1) in
     let more : c.args.count - c.loop-turn.turn ≡ suc k = omega arith in
-    let p = err_from_is_err_and c.from-residual.result c.from-residual.ensures.1 in
-    let no_more = c.in-err-tick.ensures.value in
+    let p = err_from_is_err_and c.from_residual.result c.from_residual.ensures.1 in
+    let no_more = c.in_err-tick.ensures.value in
     let went = c.tick.ensures.after in
     record {
       ready = still_ready _ _ _ _ _ c.loop-turn.invariant.0 refl refl went (tick_terms m);
@@ -35,7 +35,7 @@ loop-turn-preserved g c =
     let went = c.tick.ensures.after in (
       still_ready _ _ _ _ _ c.loop-turn.invariant.0 refl refl went (tick_terms m),
       ap (λ (n : Managed). heard [] (history n (replicate k rules.tick))) went
-          ∙ ap (λ (a : Answer). voiced [] rules.tick a (heard [] (history (done m rules.tick).after (replicate k rules.tick)))) c.in-ok-tick.ensures.value
+          ∙ ap (λ (a : Answer). voiced [] rules.tick a (heard [] (history (done m rules.tick).after (replicate k rules.tick)))) c.in_ok-tick.ensures.value
           ∙ ap (λ (n : ℕ). heard [] (history m (replicate n rules.tick))) (sym more) ∙ c.loop-turn.invariant.1,
       ap (λ (n : Managed). finally n (replicate k rules.tick)) went
           ∙ ap (λ (n : ℕ). finally m (replicate n rules.tick)) (sym more) ∙ c.loop-turn.invariant.2,

@@ -14,8 +14,8 @@ returns-then-length-eq0 c =
     let value : 0 ≡ energy_of rows gap = ap (energy_of rows) (sym c.if-length-eq0.true) in
     record { value = value; twice = subst (WithinTwice (floor_of rows gap)) (sym value) (within_twice rows c.args.self.now.fit gap) }
 
-pub ticks-held-ticks-requires : goal.ticks-held-ticks-requires
-ticks-held-ticks-requires c = λ k h b. omega (arith, c.loop-state.invariant.left k h b)
+pub ticks_held-ticks-requires : goal.ticks_held-ticks-requires
+ticks_held-ticks-requires c = λ k h b. omega (arith, c.loop-state.invariant.left k h b)
 
 pub loop-state-init : goal.loop-state-init
 loop-state-init c =
@@ -26,24 +26,24 @@ loop-state-init c =
 
 module _ (c : goal.After-from-in-loop-state-2) where
   -- after this turn
-  turn : Charged (held_rows c.args.self.now.gathered) c.args.length (c.loop-state.until - c.ticks-held-ticks.result) (c.loop-state.energy + c.from-in-loop-state.result * c.from-in-loop-state-2.result) (c.loop-state.state - 1)
+  turn : Charged (held_rows c.args.self.now.gathered) c.args.length (c.loop-state.until - c.ticks_held-ticks.result) (c.loop-state.energy + c.from-in-loop-state.result * c.from-in-loop-state-2.result) (c.loop-state.state - 1)
   turn =
       charged_more (held_rows c.args.self.now.gathered) c.rows-rows.result.now c.rows-rows.ensures.value c.args.self.now.fit c.args.length
-      c.loop-state.until c.loop-state.energy c.loop-state.state c.ticks-held-ticks.result c.from-in-loop-state.result c.from-in-loop-state-2.result
+      c.loop-state.until c.loop-state.energy c.loop-state.state c.ticks_held-ticks.result c.from-in-loop-state.result c.from-in-loop-state-2.result
       c.loop-state.invariant c.loop-state-test.true (omega arith)
-      c.ticks-held-ticks.ensures.within c.ticks-held-ticks.ensures.before c.ticks-held-ticks.ensures.held
+      c.ticks_held-ticks.ensures.within c.ticks_held-ticks.ensures.before c.ticks_held-ticks.ensures.held
       c.from-in-loop-state.ensures c.from-in-loop-state-2.ensures
 
   bound : c.loop-state.energy + c.from-in-loop-state.result * c.from-in-loop-state-2.result ≤ 1000000 * c.args.length + 1000000000
   bound =
       charged_bound (held_rows c.args.self.now.gathered) c.rows-rows.result.now c.rows-rows.ensures.value c.args.self.now.fit c.args.length
-      (c.loop-state.until - c.ticks-held-ticks.result) (c.loop-state.energy + c.from-in-loop-state.result * c.from-in-loop-state-2.result) (c.loop-state.state - 1) turn
+      (c.loop-state.until - c.ticks_held-ticks.result) (c.loop-state.energy + c.from-in-loop-state.result * c.from-in-loop-state-2.result) (c.loop-state.state - 1) turn
 
-pub overflow-mul-energy : goal.overflow-mul-energy
-overflow-mul-energy c = let b = bound c in search rules
+pub overflow_mul-energy : goal.overflow_mul-energy
+overflow_mul-energy c = let b = bound c in search rules
 
-pub overflow-add-energy : goal.overflow-add-energy
-overflow-add-energy c = let b = bound c in search rules
+pub overflow_add-energy : goal.overflow_add-energy
+overflow_add-energy c = let b = bound c in search rules
 
 pub loop-state-preserved : goal.loop-state-preserved
 loop-state-preserved c = turn c

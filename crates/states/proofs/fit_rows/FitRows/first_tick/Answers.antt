@@ -27,19 +27,19 @@ pub returns-then-held-state : goal.returns-then-held-state
 returns-then-held-state c =
     let rows = held_rows c.args.self.now.gathered in
     let fit = c.args.self.now.fit in
-    let tick = c.leads-from-first.result in
+    let tick = c.leads_from-first.result in
     let held = rule_is rows tick ∙ ap (λ (b : ℕ × ℕ). b.0) (sym c.envelope-held.ensures.value) ∙ c.if-held-state.true in
-    let first = first_at_lead rows fit c.args.state tick c.leads-from-first.ensures.some (rw c.rows-rows.ensures.value at c.leads-from-first.ensures.leads) held in
+    let first = first_at_lead rows fit c.args.state tick c.leads_from-first.ensures.some (rw c.rows-rows.ensures.value at c.leads_from-first.ensures.leads) held in
     record { value = right rows fit c.args.state (Some tick) first; right = first }
 
 pub returns-else-held-state : goal.returns-else-held-state
 returns-else-held-state c =
     let rows = held_rows c.args.self.now.gathered in
     let fit = c.args.self.now.fit in
-    let tick = c.leads-from-first.result in
+    let tick = c.leads_from-first.result in
     let held = rule_is rows tick ∙ ap (λ (b : ℕ × ℕ). b.0) (sym c.envelope-held.ensures.value) in
-    let never = never_past_lead rows fit c.args.state tick c.leads-from-first.ensures.some (rw c.rows-rows.ensures.value at c.leads-from-first.ensures.leads) (λ same. c.if-held-state.false (sym held ∙ same)) in
+    let never = never_past_lead rows fit c.args.state tick c.leads_from-first.ensures.some (rw c.rows-rows.ensures.value at c.leads_from-first.ensures.leads) (λ same. c.if-held-state.false (sym held ∙ same)) in
     record { value = right rows fit c.args.state None never; right = never }
 
-pub leads-from-first-requires : goal.leads-from-first-requires
-leads-from-first-requires c = record { fit = rw c.rows-rows.ensures.value c.args.self.now.fit; inside = omega arith }
+pub leads_from-first-requires : goal.leads_from-first-requires
+leads_from-first-requires c = record { fit = rw c.rows-rows.ensures.value c.args.self.now.fit; inside = omega arith }

@@ -27,7 +27,7 @@ loop-above-init c = (leads_none c.args.rows.now c.from-deeper.result, omega arit
 pub loop-above-preserved : goal.loop-above-preserved
 loop-above-preserved c =
     let larger : c.max-tick.result ≡ max c.loop-above.tick c.overtakes.result = search rules in (
-      leads_more c.args.rows.now c.from-deeper.result c.loop-above.above (omega (arith, c.requires.inside)) (omega (arith, c.requires.inside)) c.loop-above.tick c.overtakes.result c.max-tick.result c.loop-above.invariant.0 c.overtakes.ensures.0 larger,
+      leads_more c.args.rows.now c.from-deeper.result c.loop-above.above (omega (arith, c.requires.inside)) (omega (arith, c.requires.inside)) c.loop-above.tick c.overtakes.result c.max-tick.result c.loop-above.invariant.0 c.overtakes.ensures.overtakes larger,
       omega arith,
     )
 
