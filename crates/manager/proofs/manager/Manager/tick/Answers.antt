@@ -28,9 +28,9 @@ returns-else-before-ge-MAX_TICKS g c =
     let m = meaning g.D.StateTable.table g.D.Device.status c.args.self.now in
     let rows = held_rows c.in-Idle.rows.gathered in
     let n = c.account-before.result.length + 1 in
-    let state : c.envelope_state.result.0 ≡ envelope_rule rows n = ap (λ (b : ℕ × ℕ). b.0) c.envelope_state.ensures.value ∙ sym (rule_is rows n) in
+    let state : c.envelope-state.result.0 ≡ envelope_rule rows n = ap (λ (b : ℕ × ℕ). b.0) c.envelope-state.ensures.value ∙ sym (rule_is rows n) in
     let aimed : envelope_rule rows n ≡ aim m = ap (λ (a : Account). envelope_rule rows (a.length + 1)) c.account-before.ensures ∙ ap (λ st. envelope_rule (rows_in st) (m.account.length + 1)) (sym c.in-Idle.is) in
-    let way = idle_goes m (ap condition_of c.in-Idle.is) (omega (arith, ap (λ (a : Account). a.ticks) c.account-before.ensures)) c.envelope_state.result.0 (state ∙ aimed) in
+    let way = idle_goes m (ap condition_of c.in-Idle.is) (omega (arith, ap (λ (a : Account). a.ticks) c.account-before.ensures)) c.envelope-state.result.0 (state ∙ aimed) in
     let after = c.idle_tick.ensures.after ∙ ap (λ (o : Outcome). o.after) (sym way) in
     record { value = c.idle_tick.ensures.value ∙ ap (λ (o : Outcome). o.answer) (sym way); after = after; keeps = tick_keeps m _ after }
 
