@@ -43,10 +43,17 @@ module _ (m : Managed) (x : Item) where
   pub course_leaves : astray m x ≡ false → leaves m x ≡ finally m (wants m x)
   course_leaves e = ap (finally m) (cond-false (astray m x) [] (wants m x) e)
 
+-- a lease that is out is the one that the manager waits for
+pub out_waits : (m : Managed) (l : Lease) → Out m (Some l) → Waits m l.manager l.count
+out_waits m l h = record { condition = h.0; number = h.1; gaps = h.2 }
+
+pub waits_out : (m : Managed) (l : Lease) → Waits m l.manager l.count → Out m (Some l)
+waits_out m l w = (w.condition, w.number, w.gaps)
+
 -- a lease that is out stays so where its terms stay
 keeps_out : (m n p : Managed) (l : Option Lease) → p ≡ n → SameTerms m n → Out m l → Out p l
 keeps_out m n p None e s h = ap (λ (x : Managed). x.condition) e ∙ s.condition ∙ h
-keeps_out m n p (Some l) e s h = subst (λ (x : Managed). Waits x l.manager l.count) (sym e) (kept m n s l.manager l.count h)
+keeps_out m n p (Some l) e s h = subst (λ (x : Managed). Out x (Some l)) (sym e) (waits_out n l (kept m n s l.manager l.count (out_waits m l h)))
 
 -- what stays ready
 pub still_ready : {D : Type 0} (table : D → Table) (status : D → Status) (r s : Run D) (n : Managed) → Ready table status r → s.number ≡ r.number → s.lease ≡ r.lease → stands table status s ≡ n → SameTerms (stands table status r) n → Ready table status s

@@ -36,7 +36,7 @@ fn note_word(note: &[u8]) -> &str
 pub(crate) fn push_device(out: &mut String, number: u16) -> Result<(), AllocError>
     ensures { OnOk result (string_bytes out.new ≡ string_bytes out.old ++ lines.text (lines.device number)) }
 {
-    let line = format!(in out.allocator(); "device {number}\n")?;
+    let line = format!(in *out.allocator(); "device {number}\n")?;
     out.push_str(line.as_str())
 }
 
@@ -45,7 +45,7 @@ fn push_gap(out: &mut String, gap: ClosedGap, note: &[u8]) -> Result<(), AllocEr
     requires { Printable note.now }
     ensures { OnOk result (string_bytes out.new ≡ string_bytes out.old ++ lines.text (lines.gap gap.length gap.stuck gap.energy gap.floor gap.«from» gap.latency note.now)) }
 {
-    let heap = out.allocator();
+    let heap = *out.allocator();
     let ClosedGap {
         length,
         energy,
@@ -65,7 +65,7 @@ fn push_gap(out: &mut String, gap: ClosedGap, note: &[u8]) -> Result<(), AllocEr
 fn push_jam(out: &mut String, place: usize, fault: Fault) -> Result<(), AllocError>
     ensures { OnOk result (string_bytes out.new ≡ string_bytes out.old ++ lines.text (lines.jam place (fault_names fault))) }
 {
-    let heap = out.allocator();
+    let heap = *out.allocator();
     let Fault {
         number,
         code,
@@ -94,7 +94,7 @@ pub(crate) fn push_said(out: &mut String, place: usize, said: Said<'_>) -> Resul
 pub(crate) fn push_stop(out: &mut String, place: usize, number: u8) -> Result<(), AllocError>
     ensures { OnOk result (string_bytes out.new ≡ string_bytes out.old ++ lines.written (lines.stop place number ∷ [])) }
 {
-    let line = format!(in out.allocator(); "stop {place} {number}\n")?;
+    let line = format!(in *out.allocator(); "stop {place} {number}\n")?;
     out.push_str(line.as_str())
 }
 
@@ -103,7 +103,7 @@ pub(crate) fn push_total(out: &mut String, account: &Account) -> Result<(), Allo
     requires { lines.energy_sum account.now < 2 ^ 64 }
     ensures { OnOk result (string_bytes out.new ≡ string_bytes out.old ++ lines.text (lines.total account.now)) }
 {
-    let heap = out.allocator();
+    let heap = *out.allocator();
     let sum = account.clean + account.stuck + account.busy + account.pending;
     let (clean, floor, stuck) = (account.clean, account.floor, account.stuck);
     let (busy, pending) = (account.busy, account.pending);

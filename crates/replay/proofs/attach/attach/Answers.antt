@@ -13,15 +13,15 @@ turned_back : (r : Option ℕ) → turned_away (standing r) ≡ r
 turned_back None = refl
 turned_back (Some k) = refl
 
-pub returns-in_ok-push_device : goal.returns-in_ok-push_device
-returns-in_ok-push_device g c =
+pub returns-in_ok-push_device-in-None : goal.returns-in_ok-push_device-in-None
+returns-in_ok-push_device-in-None g c =
     let o : Opening = record { number = c.args.number; table = g.D.StateTable.table c.args.device; status = g.D.Device.status c.args.device; next = (c.args.first.offset, item c.args.first.event); others = (ahead c.args.reader.now).records } in
     let e = (ahead c.args.reader.now).ending in
     let before = string_bytes c.args.out.now in
     let m = stands g.D.StateTable.table g.D.Device.status c.new-run.result in
     let head = text (device c.args.number) in
     IfOk-weaker c.follow-followed.result _ _
-    (λ _ h. h ∙ ap (λ (s : List ℕ). s ++ written (run m (course o) e)) c.in_ok-push_device.ensures
+    (λ _ h. h ∙ ap (λ (s : List ℕ). s ++ written (run m (course o) e)) c.in_ok-push_device-in-None.ensures
     ∙ append_assoc before head (written (run m (course o) e))
     ∙ ap (λ (k : Managed). before ++ (head ++ written (run k (course o) e))) (c.new-run.ensures.value ∙ c.attach-manager.ensures)
     ∙ ap (λ (r : Option ℕ). before ++ written (attached o e r)) (c.in-None.ensures ∙ ap (λ (k : Managed). turned_away k.condition) c.attach-manager.ensures ∙ turned_back (attach_refusal o.table o.status)))

@@ -28,22 +28,22 @@ returns-in-Some g c =
           c.step.ensures.goes c.step.ensures.value;
     }
 
-pub returns-in_ok-close : goal.returns-in_ok-close
-returns-in_ok-close g c =
+pub returns-in_ok-close-in-None : goal.returns-in_ok-close-in-None
+returns-in_ok-close-in-None g c =
     let m = stands g.D.StateTable.table g.D.Device.status c.args.self.now in
     let is = rw c.in-None.is at c.in-Ok.ensures.value in
     record {
       ready = c.requires;
       moves = λ e. let z : ◌≡◌ {A = ℕ} 0 1 = cc in absurd (omega arith);
-      value = end_text m (ahead c.args.reader.now) whole (string_bytes c.args.out.now) (string_bytes c.close.new.out) [] is c.in_ok-close.ensures;
+      value = end_text m (ahead c.args.reader.now) whole (string_bytes c.args.out.now) (string_bytes c.close.new.out) [] is c.in_ok-close-in-None.ensures;
     }
 
-pub returns-in_ok-push_stop : goal.returns-in_ok-push_stop
-returns-in_ok-push_stop g c =
+pub returns-in_ok-push_stop-in-Err : goal.returns-in_ok-push_stop-in-Err
+returns-in_ok-push_stop-in-Err g c =
     let m = stands g.D.StateTable.table g.D.Device.status c.args.self.now in
     let before = string_bytes c.args.out.now in
     record {
       ready = c.requires;
       moves = λ e. let z : ◌≡◌ {A = ℕ} 0 1 = cc in absurd (omega arith);
-      value = end_text m (ahead c.args.reader.now) (stop c.in-Err.refusal) (string_bytes c.args.out.now) (string_bytes c.push_stop.new.out) [] c.in-Err.ensures.value (c.in_ok-push_stop.ensures ∙ ap (λ (k : ℕ). before ++ written (lines.stop c.in-Err.refusal.place k ∷ [])) c.number.ensures);
+      value = end_text m (ahead c.args.reader.now) (stop c.in-Err.refusal) (string_bytes c.args.out.now) (string_bytes c.push_stop.new.out) [] c.in-Err.ensures.value (c.in_ok-push_stop-in-Err.ensures ∙ ap (λ (k : ℕ). before ++ written (lines.stop c.in-Err.refusal.place k ∷ [])) c.number.ensures);
     }

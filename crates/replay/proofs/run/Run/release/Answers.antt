@@ -9,7 +9,7 @@ use Rattle.replay.specs.declared.said.Halt.{Halt}
 use Rattle.replay.specs.Runs.{voiced, quiet, halt}
 use Rattle.replay.specs.Shown.{Out, stands, told}
 use Rattle.manager.proofs.Keeps.{frees}
-use Rattle.replay.proofs.Records.{astray_says, astray_leaves, course_says, course_leaves}
+use Rattle.replay.proofs.Records.{astray_says, astray_leaves, course_says, course_leaves, out_waits}
 use Rattle.replay.proofs.run.Run.release.Goals as goal
 
 pub returns-in_err-owns : goal.returns-in_err-owns
@@ -23,7 +23,7 @@ returns-in_err-owns g c =
 pub unreachable-requires : goal.unreachable-requires
 unreachable-requires g c =
     let m = stands g.D.StateTable.table g.D.Device.status c.args.self.now in
-    let e = c.in-Err.ensures.taken (subst (Out m) (sym c.in-Some.ensures.value) c.requires.out) in
+    let e = c.in-Err.ensures.taken (out_waits m c.in-Some.lease (subst (Out m) (sym c.in-Some.ensures.value) c.requires.out)) in
     let z : ◌≡◌ {A = ℕ} 0 1 = cc in omega arith
 
 pub returns-in-Ok : goal.returns-in-Ok
@@ -31,7 +31,7 @@ returns-in-Ok g c =
     let m = stands g.D.StateTable.table g.D.Device.status c.args.self.now in
     let x = layout.release c.args.number in
     let e = not_from_true _ (eq-eqb c.args.number m.number (c.in_ok-owns.ensures ∙ c.requires.number)) in
-    let h = subst (Out m) (sym c.in-Some.ensures.value) c.requires.out in
+    let h = out_waits m c.in-Some.lease (subst (Out m) (sym c.in-Some.ensures.value) c.requires.out) in
     let own = frees m m.number m.account.gaps (record { condition = h.condition; number = refl; gaps = refl }) in
     let went = c.in-Ok.ensures.after ∙ ap (λ (o : Outcome). o.after) (frees m _ _ h) in
     record {

@@ -11,7 +11,7 @@ use Rattle.replay.specs.declared.said.Halt.{Halt}
 use Rattle.replay.specs.Runs.{voiced, quiet, halt}
 use Rattle.replay.specs.Shown.{Out, stands, told}
 use Rattle.manager.proofs.Keeps.{request_terms, request_number}
-use Rattle.replay.proofs.Records.{astray_says, astray_leaves, course_says, course_leaves, still_ready, other_number}
+use Rattle.replay.proofs.Records.{astray_says, astray_leaves, course_says, course_leaves, still_ready, other_number, waits_out}
 use Rattle.replay.proofs.run.Run.request.Goals as goal
 
 pub returns-in_err-owns : goal.returns-in_err-owns
@@ -31,7 +31,7 @@ returns-in-None g c =
     record {
       ready = record {
         number = c.requires.number ∙ sym (request_number m) ∙ sym (ap (λ (n : Managed). n.number) went);
-        out = subst (Out (meaning g.D.StateTable.table g.D.Device.status c.request.new.self)) (sym c.replace.ensures.after) c.in-Ok.ensures.waits;
+        out = subst (Out (meaning g.D.StateTable.table g.D.Device.status c.request.new.self)) (sym c.replace.ensures.after) (waits_out _ c.in-Ok.lease c.in-Ok.ensures.waits);
       };
       value = sym (course_says m x e ∙ ap (λ (a : Answer). voiced c.args.note.now rules.request a quiet) (sym c.in-Ok.ensures.value));
       after = went ∙ sym (course_leaves m x e);
