@@ -1,5 +1,6 @@
 //! Devices: the trait that every make answers by, and the makes.
 #![tactic(auto)]
+
 mod device;
 mod joined;
 mod latency_limit;

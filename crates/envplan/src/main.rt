@@ -1,6 +1,7 @@
 //! Reads a state table from standard input, one row a line (`power wake latency`), and prints its plan: the first tick
 //! of each state, and for each gap length given as an argument what a clean gap draws, its floor and the state left.
 #![tactic(auto)]
+
 use plan::{Fault, Sheet};
 use states::FitRows;
 use std::alloc::AllocError;

@@ -1,5 +1,6 @@
 //! Works the trace on the standard input through a manager, and prints the report. A refused trace is a report too.
 #![tactic(auto)]
+
 ghost use Rattle.std.specs.Prelude.{◌≤◌, IfOk, vec_len};
 
 use std::io;

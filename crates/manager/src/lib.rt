@@ -1,6 +1,7 @@
 //! The power-down manager of one device: six calls, one energy account, and the laws that hold after every list of
 //! calls.
 #![tactic(auto)]
+
 mod account;
 mod books;
 mod lease;

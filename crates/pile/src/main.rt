@@ -1,6 +1,7 @@
 //! Shows a pile of devices: two table devices, one under a latency limit, joined behind a rail and under a limit again.
 //! Each answer is printed on a line of its own.
 #![tactic(auto)]
+
 use devices::{Device, Fault, Joined, LatencyLimit, Refusal, TableDevice};
 use states::StateTable;
 use std::io;

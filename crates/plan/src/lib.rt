@@ -1,5 +1,6 @@
 //! A state table given as text, and its plan: the first tick of each state, and what clean gaps draw.
 #![tactic(auto)]
+
 mod fault;
 mod lines;
 mod row_text;

@@ -1,5 +1,6 @@
 //! Works one trace through one manager, and tells what came of it, line by line.
 #![tactic(auto)]
+
 mod attach;
 mod lines;
 mod run;

@@ -1,5 +1,6 @@
 //! Reports on the example traces in `data/`, one after the other: every kind of line and every refusal with its place.
 #![tactic(auto)]
+
 use std::fs;
 
 /// The traces, in the order of `examples/make.py`.

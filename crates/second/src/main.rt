@@ -2,6 +2,7 @@
 //! code, beside the library on many pseudo-random tables, piles and lists of calls. Both work each list and each of its
 //! beginnings, and all figures are compared.
 #![tactic(auto)]
+
 mod cases;
 mod plain;
 

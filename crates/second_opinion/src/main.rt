@@ -2,6 +2,7 @@
 //! from the documents without the library's code, beside the library on many pseudo-random piles, lists of calls and
 //! traces. Every answer is compared.
 #![tactic(auto)]
+
 mod bench;
 mod calls;
 mod library;

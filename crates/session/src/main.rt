@@ -1,6 +1,7 @@
 //! Works a modem through one session after another, and prints each answer and the figures: idle ticks, a wake-up,
 //! busy ticks, a release, a fault that holds a move up and then a wake-up, and a refused attach.
 #![tactic(auto)]
+
 ghost use Rattle.std.specs.Prelude.{◌≡◌};
 ghost use Rattle.manager.specs.Rules.{release, done};
 ghost use Rattle.manager.specs.Meaning.{meaning, Waits, KeepsLease};

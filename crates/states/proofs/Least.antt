@@ -5,7 +5,7 @@ use Rattle.std.proofs.lemmas.List.{get_or-map}
 use Rattle.std.proofs.lemmas.Bool.{cases_lt}
 use Rattle.states.specs.declared.row.Row.{Row}
 use Rattle.states.specs.Table.{no_row, cost, cost_at}
-use Rattle.states.specs.Envelope.{least, costs, least_cost, envelope_state, envelope_of, Envelope}
+use Rattle.states.specs.Envelope.{costs, least_cost, envelope_state, envelope_of, Envelope}
 use Rattle.states.specs.Energy.{envelope_rule, FollowsLeast}
 use Rattle.states.proofs.Rows.{row_at_get_or}
 use Rattle.states.proofs.Minimum.{least_below, least_found}

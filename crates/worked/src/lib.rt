@@ -1,5 +1,6 @@
 //! Worked cases, computed by the definitions that the contracts of `states` and `devices` use.
 #![tactic(auto)]
+
 ghost use Rattle.std.specs.Prelude.{◌≡◌, true};
 ghost use Rattle.worked.specs.Cases.{cases};
 
