@@ -1,6 +1,6 @@
 -- What holds of an attached manager between calls.
 use Rattle.std.proofs.Common.{◌≡◌, ℕ, ◌+◌, ◌≤◌, Bool, true, false, List}
-use Rattle.std.specs.List.{AllByRecursion as All}
+use Rattle.std.specs.List.{AllByRecursion}
 use Rattle.states.specs.Table.{Table, rows_of}
 use Rattle.states.specs.Energy.{floor_of, energy_of, total}
 use Rattle.states.proofs.Sums.{powers}
@@ -64,5 +64,5 @@ pub record Step (t : Table) (g : Gap) (s : Status) (a : Account) (o : Outcome) :
   pub sums : sum_of o.after.account ≡ sum_of a + draw t s o.answer o.after.device
   pub floored : o.after.account.floor ≡ a.floor + floors t (clean_of (closes g o.answer))
   pub cleaned : o.after.account.clean ≡ a.clean + energies (clean_of (closes g o.answer))
-  pub carried : All (Carries t) (clean_of (closes g o.answer))
+  pub carried : AllByRecursion (Carries t) (clean_of (closes g o.answer))
   pub fine : NotAstray o.answer × HeldRight t g s o.answer o.after.device

@@ -4,7 +4,7 @@ use Rattle.states.specs.declared.row.Row.{Row}
 use Rattle.states.specs.Table.{Table, at, rows_of, power_at, wake_at}
 use Rattle.states.specs.Energy.{envelope_rule}
 use Rattle.states.specs.Fit.{Fit}
-use Rattle.states.proofs.Rows.{length_rows_of, row_at_is}
+use Rattle.states.proofs.Rows.{length-rows_of, row_at_is}
 use Rattle.states.proofs.Least.{rule_envelope}
 use Rattle.states.proofs.Schedules.{never_shallower}
 use Rattle.states.proofs.Sums.{powers}
@@ -27,7 +27,7 @@ pub wake_is : (t : Table) (i : ℕ) → wake_at (rows_of t) i ≡ (at t i).wake
 wake_is t i = ap (λ (r : Row). r.wake) (row_at_is t i)
 
 pub aim_within : (t : Table) (n : ℕ) → envelope_rule (rows_of t) n ≤ t.deepest
-aim_within t n = omega (arith, length_rows_of t, (rule_envelope (rows_of t) n (omega (arith, length_rows_of t))).inside)
+aim_within t n = omega (arith, length-rows_of t, (rule_envelope (rows_of t) n (omega (arith, length-rows_of t))).inside)
 
 pub aim_below : (rows : List Row) → Fit rows → (n : ℕ) → sunk rows n ≤ envelope_rule rows (n + 1)
 aim_below rows fit zero = omega arith

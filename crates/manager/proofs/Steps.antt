@@ -1,6 +1,6 @@
 -- Each call keeps what holds of an attached manager, and adds to the account what the laws say.
 use Rattle.std.proofs.Common.{◌≡◌, ℕ, zero, suc, ◌+◌, ◌≤◌, Bool, true, false, cond, ◌&&◌, ◌||◌, eqb, leb, [], ◌∷◌, Some, None, Option, sym, refl, ap, ◌∙◌, ap₂, arith}
-use Rattle.std.specs.List.{AllByRecursion as All}
+use Rattle.std.specs.List.{AllByRecursion}
 use Rattle.std.proofs.lemmas.Bool.{cond_both, cond-true, cond-false, or_parts, both_ways}
 use Rattle.states.specs.Fit.{Fit}
 use Rattle.states.specs.Energy.{envelope_rule, floor_of, energy_of}
@@ -56,7 +56,7 @@ module _ (t : Table) where
   record Closes (mark stuck : Bool) (n k energy : ℕ) : Type 0 where
     floored : (f : ℕ) → f + cond mark 0 (floor_of (rows_of t) n) ≡ f + floors t (clean_of (record { length = k; stuck = stuck; energy = energy } ∷ []))
     cleaned : (f : ℕ) → f + cond mark 0 energy ≡ f + energies (clean_of (record { length = k; stuck = stuck; energy = energy } ∷ []))
-    carried : All (Carries t) (clean_of (record { length = k; stuck = stuck; energy = energy } ∷ []))
+    carried : AllByRecursion (Carries t) (clean_of (record { length = k; stuck = stuck; energy = energy } ∷ []))
     sums : (x y z : ℕ) → (x + cond mark 0 energy) + (y + cond mark energy 0) + z + 0 ≡ x + y + z + energy
 
   close : (mark stuck : Bool) (n k energy : ℕ) → stuck ≡ mark → k ≡ n → (mark ≡ false → energy ≡ energy_of (rows_of t) n) → Closes mark stuck n k energy

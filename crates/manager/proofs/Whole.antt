@@ -1,6 +1,6 @@
 -- The laws over every list of calls.
 use Rattle.std.proofs.Common.{◌≡◌, ℕ, ◌+◌, ◌≤◌, true, false, cond, ◌&&◌, eqb, List, [], ◌∷◌, ◌++◌, map, Some, None, Option, sym, refl, ap, ◌∙◌, subst, ap₂, arith}
-use Rattle.std.specs.List.{AllByRecursion as All}
+use Rattle.std.specs.List.{AllByRecursion}
 use Rattle.std.proofs.ByRecursion.{All-append, All-weaker}
 use Rattle.std.proofs.lemmas.Bool.{cond_both, and_parts, eqb-true}
 use Rattle.states.specs.Table.{Table, rows_of}
@@ -34,7 +34,7 @@ record Kept (t : Table) (g : Gap) (m : Managed) (cs : List Call) : Type 0 where
   sums : sum_of (finally m cs).account ≡ sum_of m.account + drawn t (history m cs)
   floored : (finally m cs).account.floor ≡ m.account.floor + floors t (clean_of (gaps_from t g (history m cs)))
   cleaned : (finally m cs).account.clean ≡ m.account.clean + energies (clean_of (gaps_from t g (history m cs)))
-  carried : All (Carries t) (clean_of (gaps_from t g (history m cs)))
+  carried : AllByRecursion (Carries t) (clean_of (gaps_from t g (history m cs)))
   fine : Descends t g (history m cs)
 
 kept : (t : Table) → Fit (rows_of t) → (cs : List Call) (m : Managed) (g : Gap) → Good t m g → Kept t g m cs
@@ -59,12 +59,12 @@ floors_are : (t : Table) (gs : List Closed) → floors t gs ≡ total (floor_of 
 floors_are t [] = refl
 floors_are t (g ∷ gs) = ap (λ (x : ℕ). floor_of (rows_of t) g.length + x) (floors_are t gs)
 
-energies_are : (t : Table) (gs : List Closed) → All (Carries t) gs → energies gs ≡ total (energy_of (rows_of t)) (map (λ g. g.length) gs)
+energies_are : (t : Table) (gs : List Closed) → AllByRecursion (Carries t) gs → energies gs ≡ total (energy_of (rows_of t)) (map (λ g. g.length) gs)
 energies_are t [] h = refl
 energies_are t (g ∷ gs) h = ap₂ (λ (x y : ℕ). x + y) h.0 (energies_are t gs h.1)
 
 -- the laws, from what the clean gaps add
-laws_of : (t : Table) → Fit (rows_of t) → (hs : List Moment) (a : Account) → sum_of a ≡ drawn t hs → a.floor ≡ floors t (clean_of (gaps t hs)) → a.clean ≡ energies (clean_of (gaps t hs)) → All (Carries t) (clean_of (gaps t hs)) → Descends t fresh hs → Laws t hs a
+laws_of : (t : Table) → Fit (rows_of t) → (hs : List Moment) (a : Account) → sum_of a ≡ drawn t hs → a.floor ≡ floors t (clean_of (gaps t hs)) → a.clean ≡ energies (clean_of (gaps t hs)) → AllByRecursion (Carries t) (clean_of (gaps t hs)) → Descends t fresh hs → Laws t hs a
 laws_of t fit hs a sums floored cleaned carried fine =
     let rows = rows_of t in
     let gs = clean_of (gaps t hs) in

@@ -1,6 +1,6 @@
 -- The laws over every list of calls.
 use Rattle.std.specs.Prelude.{◌≡◌, ◌+◌, cond, List, [], ◌∷◌, map, MatchBool, ◌≢◌}
-use Rattle.std.specs.List.{AllByRecursion as All}
+use Rattle.std.specs.List.{AllByRecursion}
 use Rattle.states.specs.Table.{Table, rows_of}
 use Rattle.states.specs.Energy.{floor_of}
 use Rattle.states.specs.Laws.{WithinTwice, BestPlan}
@@ -19,7 +19,7 @@ Twice t g = WithinTwice (floor_of (rows_of t) g.length) g.energy
 
 -- each clean gap does, and so do the account's clean energy and clean floor
 abbrev pub FactorTwo : Table → List Moment → Account → Type 0
-FactorTwo t hs a = All (Twice t) (clean_of (gaps t hs)) × WithinTwice a.floor a.clean
+FactorTwo t hs a = AllByRecursion (Twice t) (clean_of (gaps t hs)) × WithinTwice a.floor a.clean
 
 -- some clairvoyant schedule of the clean gaps costs exactly the clean floor, and every one at least that
 abbrev pub Clairvoyant : Table → List Moment → Account → Type 0

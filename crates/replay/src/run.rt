@@ -1,7 +1,6 @@
 //! A manager at work on the records of a trace.
-ghost use Rattle.std.specs.Prelude.{◌≡◌, ◌<◌, true, [], ◌∷◌, ◌++◌, length, IfOk, if◌then◌else◌, string_bytes, MatchResult, OnOk, ◌≢◌};
-ghost use Rattle.manager.specs.Rules.{idle};
-ghost use Rattle.manager.specs.Meaning.{meaning};
+ghost use Rattle.std.specs.Prelude.{◌≡◌, ◌<◌, true, [], ◌∷◌, ◌++◌, length, IfOk, if◌then◌else◌, None, string_bytes, MatchResult, OnOk, ◌≢◌};
+ghost use Rattle.manager.specs.Rules.{attach_refusal, started};
 ghost use Rattle.traces.specs.Ahead.{ahead};
 ghost use Rattle.traces.specs.Layout as layout;
 ghost use Rattle.traces.specs.Reading.{whole};
@@ -32,16 +31,15 @@ pub struct Run<D> {
 }
 
 impl<D: Device + Drop> Run<D> {
-    /// Takes on an idle manager of this number.
-    pub(crate) fn new(number: u16, manager: Manager<D>) -> Run<D>
-        requires bears { number ≡ (meaning D.StateTable.table D.Device.status manager).number }
-        requires idle { (meaning D.StateTable.table D.Device.status manager).condition ≡ idle }
+    /// Takes on a device that attach does not refuse.
+    pub(crate) fn new(number: u16, device: D) -> Run<D>
+        requires { attach_refusal (D.StateTable.table device) (D.Device.status device) ≡ None }
         ensures ready { Ready D.StateTable.table D.Device.status result }
-        ensures value { stands D.StateTable.table D.Device.status result ≡ meaning D.StateTable.table D.Device.status manager }
+        ensures value { stands D.StateTable.table D.Device.status result ≡ started number (D.StateTable.table device) (D.Device.status device) }
     {
         Run {
             number,
-            manager,
+            manager: Manager::attach(number, device),
             lease: None,
         }
     }

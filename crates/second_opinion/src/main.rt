@@ -9,9 +9,9 @@ mod library;
 mod naive;
 mod piles;
 mod random;
+mod reported;
 mod rows;
 mod shown;
-mod traces;
 mod tried;
 mod twin;
 
@@ -44,12 +44,12 @@ fn try_all(bench: &mut Bench) -> Result<(), AllocError> {
     }
     shown::million_gaps(bench)?;
     for _ in 0..TRACES {
-        traces::trial(bench)?;
+        reported::trial(bench)?;
     }
     for _ in 0..LONG_TRACES {
-        traces::long_trial(bench)?;
+        reported::long_trial(bench)?;
     }
-    traces::edges(bench)
+    reported::edges(bench)
 }
 
 /// Prints how often each number came.

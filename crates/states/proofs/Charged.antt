@@ -5,7 +5,7 @@ use Rattle.states.specs.Table.{no_row, row_at, power_at, wake_at}
 use Rattle.states.specs.Energy.{envelope_rule, energy_of}
 use Rattle.states.specs.Fit.{Fit}
 use Rattle.states.specs.Overtake.{NotDeeper, HeldBetween}
-use Rattle.states.proofs.Rows.{row_at_get_or}
+use Rattle.states.proofs.Rows.{row_at-get_or}
 use Rattle.states.proofs.Shape.{shape}
 use Rattle.states.proofs.Least.{rule_envelope}
 use Rattle.states.proofs.Sums.{powers, powers_under, powers_level}
@@ -24,7 +24,7 @@ energy_is rows (suc gap) h = refl
 -- `read` are the rows as the code reads them
 module _ (rows read : List Row) (same : read ≡ rows) (fit : Fit rows) (gap : ℕ) where
   read_is : (k : ℕ) → k < length rows → get_or read k no_row ≡ row_at rows k
-  read_is k h = ap (λ rs. get_or rs k no_row) same ∙ sym (row_at_get_or rows k h)
+  read_is k h = ap (λ rs. get_or rs k no_row) same ∙ sym (row_at-get_or rows k h)
 
   inside : (k : ℕ) → envelope_rule rows k < length rows
   inside k = (rule_envelope rows k (shape rows fit).some).inside

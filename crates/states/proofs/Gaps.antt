@@ -1,6 +1,6 @@
 -- The laws over a list of gaps.
 use Rattle.std.proofs.Common.{◌≡◌, ℕ, ◌+◌, ◌≤◌, List, [], ◌∷◌, map, length, refl, ap, ap₂, arith}
-use Rattle.std.specs.List.{AllByRecursion as All}
+use Rattle.std.specs.List.{AllByRecursion}
 use Rattle.states.specs.declared.row.Row.{Row}
 use Rattle.states.specs.Fit.{Fit}
 use Rattle.states.specs.Energy.{floor_of, energy_of, total}
@@ -15,7 +15,7 @@ gaps_within_twice rows fit (gap ∷ gaps) =
     let rest = gaps_within_twice rows fit gaps in
     (omega (arith, here.0, rest.0), omega (arith, here.1, rest.1))
 
-plans_above : (rows : List Row) → Fit rows → (plan : List (List ℕ)) → All (Inside rows) plan → total (floor_of rows) (map length plan) ≤ total (schedule_cost rows) plan
+plans_above : (rows : List Row) → Fit rows → (plan : List (List ℕ)) → AllByRecursion (Inside rows) plan → total (floor_of rows) (map length plan) ≤ total (schedule_cost rows) plan
 plans_above rows fit [] all = omega arith
 plans_above rows fit (js ∷ plan) all = omega (arith, (best_schedule rows fit (length js)).1 js (refl, all.0), plans_above rows fit plan all.1)
 

@@ -7,11 +7,11 @@ use Rattle.states.specs.declared.row.Row.{Row}
 use Rattle.states.specs.Table.{no_row, cost, cost_at}
 use Rattle.states.specs.Envelope.{costs, least_cost, envelope_state, envelope_of, Envelope}
 use Rattle.states.specs.Energy.{envelope_rule, FollowsLeast}
-use Rattle.states.proofs.Rows.{row_at_get_or}
+use Rattle.states.proofs.Rows.{row_at-get_or}
 use Rattle.states.proofs.Minimum.{least_below, least_found}
 
 costs_at : (rows : List Row) (n k : ℕ) → k < length rows → get_or (costs rows n) k 0 ≡ cost_at rows n k
-costs_at rows n k h = get_or-map (λ row. cost row n) rows k no_row 0 h ∙ ap (λ r. cost r n) (sym (row_at_get_or rows k h))
+costs_at rows n k h = get_or-map (λ row. cost row n) rows k no_row 0 h ∙ ap (λ r. cost r n) (sym (row_at-get_or rows k h))
 
 pub envelope_is : (rows : List Row) (n : ℕ) → 0 < length rows → Envelope rows n (envelope_of rows n)
 unfolding envelope_of

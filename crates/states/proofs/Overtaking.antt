@@ -4,7 +4,7 @@ use Rattle.states.specs.declared.row.Row.{Row}
 use Rattle.std.proofs.lemmas.Bool.{cases_lt}
 use Rattle.states.specs.Table.{no_row, cost, cost_at}
 use Rattle.states.specs.Overtake.{Overtakes, Leads}
-use Rattle.states.proofs.Rows.{row_at_get_or}
+use Rattle.states.proofs.Rows.{row_at-get_or}
 
 -- where the difference of the wake energies is e and that of the powers d
 pub overtaken : (deeper above : Row) (r : ℕ) → deeper.power < above.power → above.wake ≤ deeper.wake → r ≡ (deeper.wake - above.wake) / (above.power - deeper.power) + 1 → Overtakes deeper above r
@@ -20,7 +20,7 @@ overtaken deeper above r p w is n =
 
 module _ (rows : List Row) (i m : ℕ) (here : i < length rows) (there : m < length rows) where
   at_row : (k n : ℕ) → k < length rows → cost (get_or rows k no_row) n ≡ cost_at rows n k
-  at_row k n h = ap (λ r. cost r n) (sym (row_at_get_or rows k h))
+  at_row k n h = ap (λ r. cost r n) (sym (row_at-get_or rows k h))
 
   -- one shallower state more
   pub leads_more : (a b r : ℕ) → Leads rows i m a → Overtakes (get_or rows i no_row) (get_or rows m no_row) b → r ≡ max a b → Leads rows i (m + 1) r

@@ -6,12 +6,12 @@ use Rattle.std.proofs.lemmas.List.{length-take-le, get_or-take}
 use Rattle.states.specs.declared.row.Row.{Row}
 use Rattle.states.specs.Table.{Table, at, rows_of, no_row, row_at}
 
-pub row_at_get_or : (rows : List Row) (k : ℕ) → k < length rows → row_at rows k ≡ get_or rows k no_row
-row_at_get_or rows k h = ap (λ (j : ℕ). get_or rows j no_row) (omega arith)
+pub row_at-get_or : (rows : List Row) (k : ℕ) → k < length rows → row_at rows k ≡ get_or rows k no_row
+row_at-get_or rows k h = ap (λ (j : ℕ). get_or rows j no_row) (omega arith)
 
-pub length_rows_of : (t : Table) → length (rows_of t) ≡ suc t.deepest
+pub length-rows_of : (t : Table) → length (rows_of t) ≡ suc t.deepest
 unfolding rows_of
-length_rows_of t = length-map-range_with_len (at t) 0 (suc t.deepest)
+length-rows_of t = length-map-range_with_len (at t) 0 (suc t.deepest)
 
 pub row_at_is : (t : Table) (i : ℕ) → row_at (rows_of t) i ≡ at t i
 unfolding rows_of

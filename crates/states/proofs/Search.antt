@@ -5,7 +5,7 @@ use Rattle.states.specs.declared.row.Row.{Row}
 use Rattle.states.specs.Table.{no_row, cost, cost_at}
 use Rattle.states.specs.Envelope.{Envelope}
 use Rattle.states.specs.Overtake.{DeepestFrom}
-use Rattle.states.proofs.Rows.{row_at_get_or}
+use Rattle.states.proofs.Rows.{row_at-get_or}
 
 -- a state at its cost: none of the first i states costs less, and each shallower one costs more
 pub record Best (rows : List Row) (n i state least : ℕ) : Type 0 where
@@ -16,7 +16,7 @@ pub record Best (rows : List Row) (n i state least : ℕ) : Type 0 where
 
 module _ (rows : List Row) (n : ℕ) where
   cost_is : (i c : ℕ) → i < length rows → c ≡ cost (get_or rows i no_row) n → c ≡ cost_at rows n i
-  cost_is i c h e = e ∙ ap (λ r. cost r n) (sym (row_at_get_or rows i h))
+  cost_is i c h e = e ∙ ap (λ r. cost r n) (sym (row_at-get_or rows i h))
 
   pub best_none : (c : ℕ) → 0 < length rows → c ≡ cost (get_or rows 0 no_row) n → Best rows n 0 0 c
   best_none c h e = record { inside = h; is = cost_is 0 c h e; none_less = λ k l. absurd (omega arith); shallowest = λ k l. absurd (omega arith) }

@@ -5,7 +5,7 @@ use Rattle.std.proofs.lemmas.Bool.Decides.{nat_tests}
 use Rattle.states.specs.declared.row.Row.{Row}
 use Rattle.states.specs.Table.{no_row, row_at}
 use Rattle.states.specs.Fit.{within, all_within, deepens, all_deepen, ordered, count_fits, Fit, FitInWords}
-use Rattle.states.proofs.Rows.{row_at_get_or}
+use Rattle.states.proofs.Rows.{row_at-get_or}
 
 abbrev Within : Row → Type 0
 Within row = (row.power ≤ 1000000) × (row.wake ≤ 1000000000) × (row.latency ≤ 100000)
@@ -66,10 +66,10 @@ ordered_from (a ∷ rows) h =
 
 -- a fact of a row, at the row of a state
 at : (P : Row → Type 0) (rows : List Row) (k : ℕ) → k < length rows → P (get_or rows k no_row) → P (row_at rows k)
-at P rows k l h = subst P (sym (row_at_get_or rows k l)) h
+at P rows k l h = subst P (sym (row_at-get_or rows k l)) h
 
 back : (P : Row → Type 0) (rows : List Row) (k : ℕ) → k < length rows → P (row_at rows k) → P (get_or rows k no_row)
-back P rows k l h = subst P (row_at_get_or rows k l) h
+back P rows k l h = subst P (row_at-get_or rows k l) h
 
 at₂ : (P : Row → Row → Type 0) (rows : List Row) (k : ℕ) → suc k < length rows → P (get_or rows k no_row) (get_or rows (suc k) no_row) → P (row_at rows k) (row_at rows (suc k))
 at₂ P rows k l h = at (λ r. P r (row_at rows (suc k))) rows k (omega arith) (at (λ r. P (get_or rows k no_row) r) rows (suc k) l h)

@@ -1,6 +1,6 @@
 -- The laws of one gap and of a list of gaps, each a statement about one table.
 use Rattle.std.specs.Prelude.{◌≡◌, ℕ, ◌*◌, ◌<◌, ◌≤◌, List, map, length}
-use Rattle.std.specs.List.{AllByRecursion as All}
+use Rattle.std.specs.List.{AllByRecursion}
 use Rattle.states.specs.declared.row.Row.{Row}
 use Rattle.states.specs.Energy.{floor_of, envelope_rule, energy_under, FollowsLeast, total}
 use Rattle.states.specs.Schedule.{schedule_cost, Inside}
@@ -35,7 +35,7 @@ BestSchedule rows gap least =
 
 -- a schedule for each of some gaps, of its length
 abbrev pub Plans : List Row → List ℕ → List (List ℕ) → Type 0
-Plans rows gaps plan = (map length plan ≡ gaps) × All (Inside rows) plan
+Plans rows gaps plan = (map length plan ≡ gaps) × AllByRecursion (Inside rows) plan
 
 -- some plan of the gaps costs exactly so much, and every one at least that
 abbrev pub BestPlan : List Row → List ℕ → ℕ → Type 0

@@ -1,6 +1,6 @@
 -- What a clairvoyant schedule pays: one that knows the length of the gap beforehand.
 use Rattle.std.specs.Prelude.{ℕ, ◌+◌, ◌-◌, ◌<◌, cond, List, [], ◌∷◌, length, nat_lt}
-use Rattle.std.specs.List.{AllByRecursion as All}
+use Rattle.std.specs.List.{AllByRecursion}
 use Rattle.states.specs.declared.row.Row.{Row}
 use Rattle.states.specs.Table.{power_at, wake_at}
 
@@ -19,4 +19,4 @@ schedule_cost rows js = paid rows 0 js
 
 -- each state of the schedule is in the table
 abbrev pub Inside : List Row → List ℕ → Type 0
-Inside rows js = All (λ j. j < length rows) js
+Inside rows js = AllByRecursion (λ j. j < length rows) js

@@ -1,7 +1,7 @@
 -- Writing a trace and reading it are inverse.
 use Rattle.std.proofs.Common.{◌≡◌, ℕ, ◌+◌, ◌-◌, ◌*◌, ◌/◌, ◌%◌, ◌^◌, ◌<◌, ◌≤◌, Bool, true, false, cond, ◌&&◌, eqb, ltb, leb, List, [], ◌∷◌, ◌++◌, length, get_or, take, drop, Some, Ok, Option, sym, refl, ap, ◌∙◌, subst, arith, length-append, length-drop}
 use Rattle.std.specs.Option.{ok_or}
-use Rattle.std.specs.List.{AllByRecursion as All}
+use Rattle.std.specs.List.{AllByRecursion}
 use Rattle.std.proofs.ByRecursion.{All-take, All-drop}
 use Rattle.std.proofs.lemmas.List.{take_at, drop_at, drop-drop, length-take-le, take-append-drop}
 use Rattle.std.proofs.lemmas.Bool.{cond-true, cond-false, cond_both, le-ltb, le-leb, eq-eqb, leb-true, eqb-true, and_from, and_parts, ltb-false}
@@ -201,7 +201,7 @@ more Opened next k order = refl
 more Running next k order = refl
 more Ended next k order = let z : ◌≡◌ {A = ℕ} 0 1 = cc in absurd (omega arith)
 
-rest_back : (xs : List Item) (st : Stage) (n : ℕ) → All Proper xs → Orderly st xs → remaining st n (written xs) ≡ record { records = placed n xs; ending = whole }
+rest_back : (xs : List Item) (st : Stage) (n : ℕ) → AllByRecursion Proper xs → Orderly st xs → remaining st n (written xs) ≡ record { records = placed n xs; ending = whole }
 rest_back [] st n may order = whole_at_end st n [] order refl
 rest_back (x ∷ xs) st n (may, mays) (next, order, orders) =
     record_at st n (written (x ∷ xs)) _ (more st next (kind_for x) order) (record_back x st next (written xs) may order)
@@ -236,8 +236,8 @@ frame_back (a ∷ c ∷ d ∷ e ∷ rest) b m k (ha, (hc, (hd, (he, h)))) long n
 
 -- the items of a reading that ends whole, and the bytes that they are written as
 record From (st : Stage) (bs : List ℕ) (xs : List Item) : Type 0 where
-  proper : All Proper xs
-  fitting : All Fitting xs
+  proper : AllByRecursion Proper xs
+  fitting : AllByRecursion Fitting xs
   order : Orderly st xs
   bytes : bs ≡ written xs
 

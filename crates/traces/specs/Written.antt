@@ -1,6 +1,6 @@
 -- How a trace is written, and that this and its reading are inverse.
 use Rattle.std.specs.Prelude.{◌≡◌, ℕ, ◌+◌, ◌*◌, ◌/◌, ◌%◌, ◌^◌, ◌<◌, ◌≤◌, List, [], ◌∷◌, ◌++◌, map, length}
-use Rattle.std.specs.List.{AllByRecursion as All}
+use Rattle.std.specs.List.{AllByRecursion}
 use Rattle.traces.specs.declared.order.Kind.{Kind}
 use Rattle.traces.specs.declared.order.Kind.TheVariants as kind
 use Rattle.traces.specs.Layout.{Item, table, limit, ticks, request, release, report, end}
@@ -60,11 +60,11 @@ placed n (x ∷ xs) = (n, x) ∷ placed (n + length (encoded x)) xs
 
 -- bytes
 abbrev pub Bytes : List ℕ → Type 0
-Bytes = All (λ b. b < 256)
+Bytes = AllByRecursion (λ b. b < 256)
 
 -- bytes that can be printed, and no space
 abbrev pub Printable : List ℕ → Type 0
-Printable = All (λ b. (33 ≤ b) × (b ≤ 126))
+Printable = AllByRecursion (λ b. (33 ≤ b) × (b ≤ 126))
 
 -- what a record may say: 1 to 16 rows of 12 bytes, 1 to 1,000,000 ticks, a note of at most 16 printable bytes
 abbrev pub Proper : Item → Type 0
@@ -101,8 +101,8 @@ pub data InOrder : List Item → Type 0 where
 
 -- items that make a trace
 pub record Sound (xs : List Item) : Type 0 where
-  pub proper : All Proper xs
-  pub fitting : All Fitting xs
+  pub proper : AllByRecursion Proper xs
+  pub fitting : AllByRecursion Fitting xs
   pub order : InOrder xs
   pub short : length (written xs) ≤ 65536
 

@@ -6,7 +6,7 @@ ghost use Rattle.states.specs.Fit.{FitInWords, unfitness, told};
 ghost use Rattle.states.specs.Energy.{floor_of, energy_of, envelope_rule, total};
 ghost use Rattle.states.specs.Ticks.{first_tick, FirstTick};
 ghost use Rattle.states.specs.Laws.{NeverShallower, WithinTwice, LeastWithinTwice, DescentsAboveFloor, BestSchedule, BestPlan};
-ghost use Rattle.states.specs.Overtake.{NotDeeper, HeldBetween};
+ghost use Rattle.states.specs.Overtake.{Leads, NotDeeper, HeldBetween};
 ghost use Rattle.states.specs.Gathered.{held_rows};
 
 use super::FitRows;
@@ -99,13 +99,21 @@ impl FitRows {
         ensures value { result ≡ first_tick (held_rows self.now.gathered) state }
         ensures right { FirstTick (held_rows self.now.gathered) state result }
     {
-        let rows = self.rows();
-        if usize::from(state) >= rows.len() {
+        if usize::from(state) >= self.rows().len() {
             return None;
         }
-        let first = leads_from(rows, state);
+        let first = self.leads_from(state);
         let (held, _) = self.envelope(first);
         if held == state { Some(first) } else { None }
+    }
+
+    /// The tick from which on a state costs less than each shallower one.
+    fn leads_from(&self, state: u8) -> u32
+        requires { state < length (held_rows self.now.gathered) }
+        ensures leads { Leads (held_rows self.now.gathered) state state result }
+        ensures some { 0 < result }
+    {
+        leads_from(self.rows(), state)
     }
 
     /// The energy of a clean gap of `length` ticks under the lower envelope, the wake-up included.

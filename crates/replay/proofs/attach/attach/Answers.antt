@@ -1,17 +1,12 @@
-use Rattle.std.proofs.Common.{◌≡◌, ℕ, List, ◌++◌, Some, None, string_bytes, Option, refl, ap, ◌∙◌, append_assoc}
+use Rattle.std.proofs.Common.{ℕ, List, ◌++◌, string_bytes, Option, ap, ◌∙◌, append_assoc}
 use Rattle.std.proofs.lemmas.Result.{IfOk-weaker}
-use Rattle.manager.specs.Rules.{Managed, turned_away, standing, attach_refusal}
+use Rattle.manager.specs.Rules.{Managed}
 use Rattle.traces.specs.Ahead.{ahead}
 use Rattle.traces.specs.Layout.{item}
 use Rattle.replay.specs.Lines.{device, text, written}
 use Rattle.replay.specs.Runs.{Opening, run, course, attached}
 use Rattle.replay.specs.Shown.{stands}
 use Rattle.replay.proofs.attach.attach.Goals as goal
-
--- a manager tells what attach was refused with
-turned_back : (r : Option ℕ) → turned_away (standing r) ≡ r
-turned_back None = refl
-turned_back (Some k) = refl
 
 pub returns-in_ok-push_device-in-None : goal.returns-in_ok-push_device-in-None
 returns-in_ok-push_device-in-None g c =
@@ -23,6 +18,6 @@ returns-in_ok-push_device-in-None g c =
     IfOk-weaker c.follow-followed.result _ _
     (λ _ h. h ∙ ap (λ (s : List ℕ). s ++ written (run m (course o) e)) c.in_ok-push_device-in-None.ensures
     ∙ append_assoc before head (written (run m (course o) e))
-    ∙ ap (λ (k : Managed). before ++ (head ++ written (run k (course o) e))) (c.new-run.ensures.value ∙ c.attach-manager.ensures)
-    ∙ ap (λ (r : Option ℕ). before ++ written (attached o e r)) (c.in-None.ensures ∙ ap (λ (k : Managed). turned_away k.condition) c.attach-manager.ensures ∙ turned_back (attach_refusal o.table o.status)))
+    ∙ ap (λ (k : Managed). before ++ (head ++ written (run k (course o) e))) c.new-run.ensures.value
+    ∙ ap (λ (r : Option ℕ). before ++ written (attached o e r)) c.in-None.ensures)
     c.follow-followed.ensures.value

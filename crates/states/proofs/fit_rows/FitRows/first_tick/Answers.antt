@@ -20,7 +20,7 @@ pub returns-then-from-rows : goal.returns-then-from-rows
 returns-then-from-rows c =
     let rows = held_rows c.args.self.now.gathered in
     let fit = c.args.self.now.fit in
-    let never = beyond rows fit c.args.state (omega (arith, ap length c.rows-rows.ensures.value)) in
+    let never = beyond rows fit c.args.state (omega (arith, ap length c.rows.ensures.value)) in
     record { value = right rows fit c.args.state None never; right = never }
 
 pub returns-then-held-state : goal.returns-then-held-state
@@ -29,7 +29,7 @@ returns-then-held-state c =
     let fit = c.args.self.now.fit in
     let tick = c.leads_from-first.result in
     let held = rule_is rows tick ∙ ap (λ (b : ℕ × ℕ). b.0) (sym c.envelope-held.ensures.value) ∙ c.if-held-state.true in
-    let first = first_at_lead rows fit c.args.state tick c.leads_from-first.ensures.some (rw c.rows-rows.ensures.value at c.leads_from-first.ensures.leads) held in
+    let first = first_at_lead rows fit c.args.state tick c.leads_from-first.ensures.some c.leads_from-first.ensures.leads held in
     record { value = right rows fit c.args.state (Some tick) first; right = first }
 
 pub returns-else-held-state : goal.returns-else-held-state
@@ -38,8 +38,5 @@ returns-else-held-state c =
     let fit = c.args.self.now.fit in
     let tick = c.leads_from-first.result in
     let held = rule_is rows tick ∙ ap (λ (b : ℕ × ℕ). b.0) (sym c.envelope-held.ensures.value) in
-    let never = never_past_lead rows fit c.args.state tick c.leads_from-first.ensures.some (rw c.rows-rows.ensures.value at c.leads_from-first.ensures.leads) (λ same. c.if-held-state.false (sym held ∙ same)) in
+    let never = never_past_lead rows fit c.args.state tick c.leads_from-first.ensures.some c.leads_from-first.ensures.leads (λ same. c.if-held-state.false (sym held ∙ same)) in
     record { value = right rows fit c.args.state None never; right = never }
-
-pub leads_from-first-requires : goal.leads_from-first-requires
-leads_from-first-requires c = record { fit = rw c.rows-rows.ensures.value c.args.self.now.fit; inside = omega arith }

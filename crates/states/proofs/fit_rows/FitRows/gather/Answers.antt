@@ -6,14 +6,14 @@ use Rattle.states.specs.Gathered.{held_rows}
 use Rattle.states.specs.Overtake.{Leads, DeepestFrom}
 use Rattle.states.specs.Fit.{unfitness}
 use Rattle.states.specs.declared.unfit.Unfit.TheVariants.{StateCount}
-use Rattle.states.proofs.Rows.{length_rows_of}
+use Rattle.states.proofs.Rows.{length-rows_of}
 use Rattle.states.proofs.Fitness.{too_many, fit_from_none, in_words}
 use Rattle.states.proofs.fit_rows.FitRows.gather.Goals as goal
 
 pub returns-then-deepest-gt-MAX_DEEPEST : goal.returns-then-deepest-gt-MAX_DEEPEST
 returns-then-deepest-gt-MAX_DEEPEST g c =
     let t = g.T.StateTable.table c.args.table.now in
-    let many : 16 < length (rows_of t) = omega (arith, length_rows_of t) in
+    let many : 16 < length (rows_of t) = omega (arith, length-rows_of t) in
     let refused = sym (too_many (rows_of t) many) in
     record { refusal = refused; value = tt; words = in_words {X = Unit {0}} (rows_of t) (Err StateCount) refused }
 
@@ -29,7 +29,7 @@ leads_from-deepest_from-requires g c =
     let t = g.T.StateTable.table c.args.table.now in
     record {
       fit = rw c.rows.ensures.value (fit_from_none _ (sym c.in_ok-fitness.ensures));
-      inside = omega (arith, ap length c.rows.ensures.value, ap length c.from_table-gathered.ensures, length_rows_of t);
+      inside = omega (arith, ap length c.rows.ensures.value, ap length c.from_table-gathered.ensures, length-rows_of t);
     }
 
 -- where the last state leads, the deepest costs less than each other
@@ -40,7 +40,7 @@ last_leads rows held i r same last some leads n j late below =
 pub invariant_of-result : goal.invariant_of-result
 invariant_of-result g c =
     let t = g.T.StateTable.table c.args.table.now in
-    let last : c.deepest-2.result ≡ length (held_rows c.from_table-gathered.result) - 1 = omega (arith, ap length c.from_table-gathered.ensures, length_rows_of t) in
+    let last : c.deepest-2.result ≡ length (held_rows c.from_table-gathered.result) - 1 = omega (arith, ap length c.from_table-gathered.ensures, length-rows_of t) in
     record {
       fit = fit_from_none _ (sym c.in_ok-fitness.ensures);
       deepest = last_leads _ _ _ _ c.rows.ensures.value last c.leads_from-deepest_from.ensures.some c.leads_from-deepest_from.ensures.leads;

@@ -3,7 +3,7 @@ use Rattle.states.specs.declared.row.Row.{Row}
 use Rattle.states.specs.Table.{no_row}
 use Rattle.states.specs.Fit.{Fit}
 use Rattle.states.specs.Overtake.{Leads}
-use Rattle.states.proofs.Rows.{row_at_get_or}
+use Rattle.states.proofs.Rows.{row_at-get_or}
 use Rattle.states.proofs.Shape.{shape}
 use Rattle.states.proofs.Overtaking.{leads_none, leads_more}
 use Rattle.states.proofs.gathered.gather.leads_from.Goals as goal
@@ -14,8 +14,8 @@ two_rows : (rows : List Row) → Fit rows → (above deeper : ℕ) → above < d
     × (((get_or rows above no_row).wake ≤ (get_or rows deeper no_row).wake) × ((get_or rows deeper no_row).wake ≤ 1000000000))
 two_rows rows fit above deeper h l =
     let s = shape rows fit in
-    let a = row_at_get_or rows above (omega arith) in
-    let d = row_at_get_or rows deeper l in
+    let a = row_at-get_or rows above (omega arith) in
+    let d = row_at-get_or rows deeper l in
     (rw (← a, ← d) (s.falls above deeper h l), (rw (← a, ← d) (s.rises above deeper (omega arith)), rw (← d) (s.low_wake deeper l)))
 
 pub overtakes-requires : goal.overtakes-requires
