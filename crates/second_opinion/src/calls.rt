@@ -1,5 +1,5 @@
 //! Pseudo-random commands to devices and calls of managers.
-use crate::naive::manager::Manager;
+use crate::naive::managed::Manager;
 use crate::random::Random;
 use manager::Step;
 

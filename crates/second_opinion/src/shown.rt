@@ -2,7 +2,7 @@
 use crate::bench::Bench;
 use crate::naive::answer::Answer;
 use crate::naive::device::Device;
-use crate::naive::manager::Manager;
+use crate::naive::managed::Manager;
 use crate::{library, twin};
 use devices::TableDevice;
 use manager::Step;

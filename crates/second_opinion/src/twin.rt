@@ -2,7 +2,7 @@
 use crate::bench::Bench;
 use crate::calls::Command;
 use crate::naive::answer::{Answer, Move};
-use crate::naive::manager::Manager;
+use crate::naive::managed::Manager;
 use crate::tried::Tried;
 use crate::{calls, library, naive};
 use devices::{Device, Joined, LatencyLimit, TableDevice};

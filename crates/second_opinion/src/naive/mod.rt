@@ -1,7 +1,7 @@
 //! The naive implementation, written from the documents alone: tables, devices, the manager and the report of a trace.
 pub mod answer;
 pub mod device;
-pub mod manager;
+pub mod managed;
 pub mod report;
 pub mod table;
 pub mod trace;

@@ -1,7 +1,7 @@
 //! The report of a trace.
 use crate::naive::answer::{Answer, Gap, Jam};
 use crate::naive::device::Device;
-use crate::naive::manager::Manager;
+use crate::naive::managed::Manager;
 use crate::naive::trace;
 use crate::naive::trace::Record;
 use manager::Step;
