@@ -5,6 +5,7 @@ ghost use Rattle.std.specs.Prelude.{◌≤◌, IfOk, vec_len};
 
 use std::io;
 use std::io::{Read, Write};
+use std::process::ExitCode;
 
 /// The most bytes that are read at once.
 const PIECE: usize = 65_536;
@@ -32,8 +33,8 @@ fn read_trace(rt: &HostRuntime) -> io::Result<Vec<u8>>
 }
 
 /// The report of the trace on the standard input, or a line on the standard error.
-fn main(rt: HostRuntime) -> io::Result<()> {
-    let trace = match read_trace(&rt) {
+fn run(rt: &HostRuntime) -> io::Result<()> {
+    let trace = match read_trace(rt) {
         Ok(bytes) => bytes,
         Err(why) => {
             eprintln!(rt; "envrun: the trace cannot be read: {why}")?;
@@ -46,5 +47,13 @@ fn main(rt: HostRuntime) -> io::Result<()> {
             eprintln!(rt; "envrun: no memory for the report")?;
             Err(why.into())
         }
+    }
+}
+
+/// Status 0, or 1 after an error. Its line, if it has one, is written by then.
+fn main(rt: HostRuntime) -> ExitCode {
+    match run(&rt) {
+        Ok(()) => ExitCode::SUCCESS,
+        Err(_) => ExitCode::FAILURE,
     }
 }

@@ -70,7 +70,8 @@ impl Books {
 
     /// Closes the gap with a wake-up from a state, and answers the gap's energy.
     pub(crate) fn close(&mut self, from: u8, wake: u32, least: u64) -> u64
-        requires { (self.old.account.gaps < 1000000) × (least ≤ 1000000 * self.old.account.length) }
+        requires few_gaps { self.old.account.gaps < 1000000 }
+        requires low_floor { least ≤ 1000000 * self.old.account.length }
         ensures energy { result ≡ self.old.account.pending + wake }
         ensures after { self.new.account ≡ settle self.old.account «from» (self.old.account.pending + wake) least }
     {

@@ -45,9 +45,11 @@ impl Row {
 
     /// The first tick from which on this state costs less than a shallower one.
     pub(crate) fn overtakes(&self, above: &Row) -> u32
-        requires { (self.now.power < above.now.power) × ((above.now.wake ≤ self.now.wake) × (self.now.wake ≤ 1000000000)) }
-        ensures overtakes { Overtakes self.now above.now result }
-        ensures upper_bound { result ≤ 1000000001 }
+        requires draws_less { self.now.power < above.now.power }
+        requires wakes_no_cheaper { above.now.wake ≤ self.now.wake }
+        requires low_wake { self.now.wake ≤ 1000000000 }
+        ensures tick { Overtakes self.now above.now result }
+        ensures low { result ≤ 1000000001 }
     {
         (self.wake - above.wake) / (above.power - self.power) + 1
     }

@@ -141,7 +141,8 @@ impl<D: Device> Manager<D> {
 
     /// Wakes the device and closes the gap; a fault that holds the wake-up up marks the gap.
     fn close(&mut self, rows: FitRows) -> Result<(Lease, ClosedGap), Refusal>
-        requires { (self.old.books.account.gaps < 1000000) × (self.old.standing ≡ Idle rows) }
+        requires few_gaps { self.old.books.account.gaps < 1000000 }
+        requires is_idle { self.old.standing ≡ Idle rows }
         ensures value { told_closed result ≡ (waking (meaning D.StateTable.table D.Device.status self.old) (wake_refusal (D.Device.status self.old.device))).answer }
         ensures after { meaning D.StateTable.table D.Device.status self.new ≡ (waking (meaning D.StateTable.table D.Device.status self.old) (wake_refusal (D.Device.status self.old.device))).after }
     {

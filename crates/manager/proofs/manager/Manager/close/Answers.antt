@@ -26,7 +26,10 @@ close-energy-requires g c =
     let m = meaning g.D.StateTable.table g.D.Device.status c.args.self.now in
     let woken = accepted_by (wake_refusal m.device) _ c.in_ok-wake.wake c.in_ok-wake.ensures.value in
     let same = ap (λ (x : Managed). x.account) (c.rouse.ensures.after ∙ ap (roused m) woken.0) in
-    (omega (arith, ap (λ (a : Account). a.gaps) same, c.requires.0), omega (arith, ap (λ (a : Account). a.length) same, ap (λ (a : Account). a.length) c.account-before.ensures, c.floor-floor.ensures.low))
+    record {
+      few_gaps = omega (arith, ap (λ (a : Account). a.gaps) same, c.requires.few_gaps);
+      low_floor = omega (arith, ap (λ (a : Account). a.length) same, ap (λ (a : Account). a.length) c.account-before.ensures, c.floor-floor.ensures.low);
+    }
 
 pub returns : goal.returns
 returns g c =
@@ -36,7 +39,7 @@ returns g c =
     let woken = accepted_by (wake_refusal m.device) _ c.in_ok-wake.wake c.in_ok-wake.ensures.value in
     let after = c.rouse.ensures.after ∙ ap (roused m) woken.0 in
     let before = c.account-before.ensures in
-    let rows_are : rows ≡ m.rows = ap rows_in (sym c.requires.1) in
+    let rows_are : rows ≡ m.rows = ap rows_in (sym c.requires.is_idle) in
     let least : c.floor-floor.result ≡ floor_of m.rows m.account.length = c.floor-floor.ensures.value ∙ ap₂ floor_of rows_are (ap (λ (a : Account). a.length) before) in
     let pending = ap (λ (x : Managed). x.account.pending) after in
     let answer = closing_same m c.new-lease.result.manager c.new-lease.result.count c.account-before.result.length c.close-energy.result c.floor-floor.result c.account-before.result.mark c.state-from.result c.latency-latency.result

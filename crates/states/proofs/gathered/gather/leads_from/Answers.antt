@@ -19,7 +19,9 @@ two_rows rows fit above deeper h l =
     (rw (← a, ← d) (s.falls above deeper h l), (rw (← a, ← d) (s.rises above deeper (omega arith)), rw (← d) (s.low_wake deeper l)))
 
 pub overtakes-requires : goal.overtakes-requires
-overtakes-requires c = two_rows c.args.rows.now c.requires.fit c.loop-above.above c.from-deeper.result c.loop-above-test.true (omega (arith, c.requires.inside))
+overtakes-requires c =
+    let two = two_rows c.args.rows.now c.requires.fit c.loop-above.above c.from-deeper.result c.loop-above-test.true (omega (arith, c.requires.inside)) in
+    record { draws_less = two.0; wakes_no_cheaper = two.1.0; low_wake = two.1.1 }
 
 pub loop-above-init : goal.loop-above-init
 loop-above-init c = (leads_none c.args.rows.now c.from-deeper.result, omega arith)
@@ -27,7 +29,7 @@ loop-above-init c = (leads_none c.args.rows.now c.from-deeper.result, omega arit
 pub loop-above-preserved : goal.loop-above-preserved
 loop-above-preserved c =
     let larger : c.max-tick.result ≡ max c.loop-above.tick c.overtakes.result = search rules in (
-      leads_more c.args.rows.now c.from-deeper.result c.loop-above.above (omega (arith, c.requires.inside)) (omega (arith, c.requires.inside)) c.loop-above.tick c.overtakes.result c.max-tick.result c.loop-above.invariant.0 c.overtakes.ensures.overtakes larger,
+      leads_more c.args.rows.now c.from-deeper.result c.loop-above.above (omega (arith, c.requires.inside)) (omega (arith, c.requires.inside)) c.loop-above.tick c.overtakes.result c.max-tick.result c.loop-above.invariant.0 c.overtakes.ensures.tick larger,
       omega arith,
     )
 

@@ -6,4 +6,4 @@ pub returns : goal.returns
 returns c =
     let self = c.args.self.now in
     let above = c.args.above.now in
-    (record { overtakes = overtaken self above _ (omega arith) (omega arith) refl; upper_bound = omega (arith, div-le_self (self.wake - above.wake) (above.power - self.power)) })
+    (record { tick = overtaken self above _ (omega arith) (omega arith) refl; low = omega (arith, div-le_self (self.wake - above.wake) (above.power - self.power)) })
