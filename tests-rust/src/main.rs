@@ -3,7 +3,9 @@
 //!
 //!     tests-rust report < TRACE              the report of one trace
 //!     tests-rust compare ENVRUN COUNT SEED   COUNT pseudo-random traces, valid and damaged, through both
-//!     tests-rust long TICKS GAP WAKE > TRACE a long trace with sixteen states, for timing; a larger WAKE has the states later
+//!     tests-rust longest ENVRUN COUNT SEED   the same with traces of about 65,536 bytes
+//!     tests-rust long TICKS GAP > TRACE      a long trace with sixteen states, for timing
+//!     tests-rust long TICKS GAP WAKE > TRACE the same with larger wake energies, so that its states come later
 
 mod report;
 mod traces;
@@ -20,11 +22,11 @@ fn envrun(path: &str, trace: &[u8]) -> io::Result<(Vec<u8>, bool)> {
     Ok((output.stdout, output.status.success()))
 }
 
-fn compare(path: &str, count: u64, seed: u64) -> io::Result<bool> {
+fn compare(make: fn(&mut traces::Random) -> Vec<u8>, path: &str, count: u64, seed: u64) -> io::Result<bool> {
     let mut random = traces::Random::new(seed);
     let mut lines = [0u64; 6];
     for number in 0..count {
-        let trace = traces::any(&mut random);
+        let trace = make(&mut random);
         let mine = report::report(&trace);
         let (theirs, ended) = envrun(path, &trace)?;
         if mine.as_bytes() != theirs || !ended {
@@ -43,6 +45,11 @@ fn compare(path: &str, count: u64, seed: u64) -> io::Result<bool> {
     Ok(true)
 }
 
+fn write_long(ticks: &str, gap: &str, wake: &str) -> io::Result<()> {
+    let [ticks, gap, wake] = [ticks, gap, wake].map(|word| word.parse().expect("a number"));
+    io::stdout().write_all(&traces::long(ticks, gap, wake))
+}
+
 fn main() -> io::Result<()> {
     let args: Vec<String> = env::args().collect();
     let words: Vec<&str> = args.iter().map(String::as_str).collect();
@@ -52,16 +59,15 @@ fn main() -> io::Result<()> {
             io::stdin().take(65_537).read_to_end(&mut trace)?;
             io::stdout().write_all(report::report(&trace).as_bytes())
         }
-        ["compare", path, count, seed] => {
-            let same = compare(path, count.parse().expect("a count"), seed.parse().expect("a seed"))?;
+        [kind @ ("compare" | "longest"), path, count, seed] => {
+            let make = if kind == "compare" { traces::any } else { traces::longest };
+            let same = compare(make, path, count.parse().expect("a count"), seed.parse().expect("a seed"))?;
             std::process::exit(if same { 0 } else { 1 })
         }
-        ["long", ticks, gap, wake] => {
-            let numbers = [ticks, gap, wake].map(|word| word.parse().expect("a number"));
-            io::stdout().write_all(&traces::long(numbers[0], numbers[1], numbers[2]))
-        }
+        ["long", ticks, gap] => write_long(ticks, gap, "1"),
+        ["long", ticks, gap, wake] => write_long(ticks, gap, wake),
         _ => {
-            eprintln!("usage: tests-rust report | compare ENVRUN COUNT SEED | long TICKS GAP WAKE");
+            eprintln!("usage: tests-rust report | compare ENVRUN COUNT SEED | longest ENVRUN COUNT SEED | long TICKS GAP [WAKE]");
             std::process::exit(2)
         }
     }

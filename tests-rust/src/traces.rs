@@ -117,8 +117,7 @@ fn damage(random: &mut Random, trace: &mut Vec<u8>) {
     }
 }
 
-/// A trace of some records, damaged now and then.
-pub fn any(random: &mut Random) -> Vec<u8> {
+fn made(random: &mut Random, longest: bool) -> Vec<u8> {
     let number = random.below(4) as u16;
     let mut trace = table(number, &rows(random));
     if random.chance(30) {
@@ -129,7 +128,7 @@ pub fn any(random: &mut Random) -> Vec<u8> {
     for _ in 0..steps {
         trace.extend(step(random, number, &mut busy));
     }
-    if random.below(200) == 0 {
+    if longest {
         lengthen(random, &mut trace);
     }
     trace.extend(record(7, &[]));
@@ -137,6 +136,16 @@ pub fn any(random: &mut Random) -> Vec<u8> {
         damage(random, &mut trace);
     }
     trace
+}
+
+/// A trace of some records, damaged now and then.
+pub fn any(random: &mut Random) -> Vec<u8> {
+    made(random, false)
+}
+
+/// The same, about as long as a trace may be.
+pub fn longest(random: &mut Random) -> Vec<u8> {
+    made(random, true)
 }
 
 // Ticks up to about the most bytes of a trace, so that with its end it has some bytes fewer, just as many, or more.
