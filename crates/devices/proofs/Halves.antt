@@ -100,25 +100,25 @@ module _ (ta tb : Table) (a b : Status) where
 
   -- what the halves' holds leave is what the pair's leaves
   pub held_together : (i : ℕ) {x y : ℕ} {ta' tb' : Table} {a' b' : Status} → BothFree ta tb a b i → x ≡ min i ta.deepest → y ≡ min i tb.deepest → ta' ≡ ta → tb' ≡ tb → a' ≡ left (hold_refusal ta a x) a (held a x) → b' ≡ left (hold_refusal tb b y) b (held b y) → joined_status ta' a' tb' b' ≡ left (hold_refusal (joined_table ta tb 0 0) (joined_status ta a tb b) i) (joined_status ta a tb b) (held (joined_status ta a tb b) i)
-  held_together i f ex ey same-a same-b after-a after-b =
+  held_together i f ex ey same_a same_b after_a after_b =
       let s = joined_status ta a tb b in
-      let down-a = after-a ∙ (ap (λ k. left (hold_refusal ta a k) a (held a k)) ex ∙ ap (λ o. left o a (held a (min i ta.deepest))) f.first) in
-      let down-b = after-b ∙ (ap (λ k. left (hold_refusal tb b k) b (held b k)) ey ∙ ap (λ o. left o b (held b (min i tb.deepest))) f.second) in
-      status_of_halves same-a same-b down-a down-b ∙ (held_pair i f.inside ∙ sym (ap (λ o. left o s (held s i)) f.pair))
+      let down_a = after_a ∙ (ap (λ k. left (hold_refusal ta a k) a (held a k)) ex ∙ ap (λ o. left o a (held a (min i ta.deepest))) f.first) in
+      let down_b = after_b ∙ (ap (λ k. left (hold_refusal tb b k) b (held b k)) ey ∙ ap (λ o. left o b (held b (min i tb.deepest))) f.second) in
+      status_of_halves same_a same_b down_a down_b ∙ (held_pair i f.inside ∙ sym (ap (λ o. left o s (held s i)) f.pair))
 
   -- and so for a wake-up
   pub woken_together : {ta' tb' : Table} {a' b' : Status} → BothWaking ta tb a b → ta' ≡ ta → tb' ≡ tb → a' ≡ left (wake_refusal a) a (woken a) → b' ≡ left (wake_refusal b) b (woken b) → joined_status ta' a' tb' b' ≡ left (wake_refusal (joined_status ta a tb b)) (joined_status ta a tb b) (woken (joined_status ta a tb b))
-  woken_together f same-a same-b after-a after-b =
+  woken_together f same_a same_b after_a after_b =
       let s = joined_status ta a tb b in
-      let up-a = after-a ∙ ap (λ o. left o a (woken a)) f.first in
-      let up-b = after-b ∙ ap (λ o. left o b (woken b)) f.second in
+      let up_a = after_a ∙ ap (λ o. left o a (woken a)) f.first in
+      let up_b = after_b ∙ ap (λ o. left o b (woken b)) f.second in
       let settled : (eqb 0 (min 0 ta.deepest) && eqb 0 (min 0 tb.deepest)) ≡ true = and_from (eqb 0 (min 0 ta.deepest)) _ (eq-eqb 0 _ (omega arith)) (eq-eqb 0 _ (omega arith)) in
       let pair : joined_status ta (woken a) tb (woken b) ≡ woken s = cc in
-      status_of_halves same-a same-b up-a up-b ∙ (pair ∙ sym (ap (λ o. left o s (woken s)) f.pair))
+      status_of_halves same_a same_b up_a up_b ∙ (pair ∙ sym (ap (λ o. left o s (woken s)) f.pair))
 
   -- and for a report
   pub reported_together : (n c : ℕ) {ta' tb' : Table} {a' b' : Status} → ta' ≡ ta → tb' ≡ tb → a' ≡ reported a n c → b' ≡ reported b n c → joined_status ta' a' tb' b' ≡ reported (joined_status ta a tb b) n c
-  reported_together n c same-a same-b after-a after-b =
+  reported_together n c same_a same_b after_a after_b =
       let parts = ap (map layered) (sym (map-append (coded n c) a.parts b.parts)) ∙ sym (coded_layered n c (a.parts ++ b.parts)) in
       let both : joined_status ta (reported a n c) tb (reported b n c) ≡ reported (joined_status ta a tb b) n c = cc in
-      status_of_halves same-a same-b after-a after-b ∙ both
+      status_of_halves same_a same_b after_a after_b ∙ both

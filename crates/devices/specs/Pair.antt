@@ -10,15 +10,15 @@ capped n = min n 4294967295
 
 -- each half draws its own; the rail adds its power in every state but the deepest, and its energy in the deepest
 abbrev pub joined_row : Table → Table → ℕ → ℕ → ℕ → Row
-joined_row a b rail-power rail-energy i = record {
-  power = capped ((at a i).power + (at b i).power + cond (i == max a.deepest b.deepest) 0 rail-power);
-  wake = capped ((at a i).wake + (at b i).wake + cond (i == max a.deepest b.deepest) rail-energy 0);
+joined_row a b rail_power rail_energy i = record {
+  power = capped ((at a i).power + (at b i).power + cond (i == max a.deepest b.deepest) 0 rail_power);
+  wake = capped ((at a i).wake + (at b i).wake + cond (i == max a.deepest b.deepest) rail_energy 0);
   latency = max (at a i).latency (at b i).latency;
 }
 
 -- the deeper of the two deepest states is the deepest
 abbrev pub joined_table : Table → Table → ℕ → ℕ → Table
-joined_table a b rail-power rail-energy = record { deepest = max a.deepest b.deepest; row = joined_row a b rail-power rail-energy }
+joined_table a b rail_power rail_energy = record { deepest = max a.deepest b.deepest; row = joined_row a b rail_power rail_energy }
 
 -- a half stands with the pair in its state, or in its own deepest if that is shallower
 abbrev pub abreast : Table → Status → ℕ → Bool

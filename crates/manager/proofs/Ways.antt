@@ -4,7 +4,7 @@ use Rattle.std.proofs.lemmas.Bool.{cond-true, cond-false, or_parts, le-leb, lt-l
 use Rattle.states.specs.declared.row.Row.{Row}
 use Rattle.states.specs.Table.{Table, at}
 use Rattle.states.specs.Energy.{floor_of}
-use Rattle.devices.specs.Meaning.{Status, Refused, plain, hold_refusal, wake_refusal, held, reply, left, bears, coded, reported, told as told-by-device}
+use Rattle.devices.specs.Meaning.{Status, Refused, plain, hold_refusal, wake_refusal, held, reply, left, bears, coded, reported, told as told_by_device}
 use Rattle.devices.specs.declared.device.Part.{Part}
 use Rattle.devices.specs.declared.device.Refusal as device
 use Rattle.devices.specs.declared.device.Refusal.TheVariants as refusals
@@ -66,7 +66,7 @@ accepted_by None p v e = (refl, cc)
 accepted_by (Some q) p v e = let z : ◌≡◌ {A = ℕ} 0 1 = cc in absurd (omega arith)
 
 -- what a device's refusal becomes is told as 43 is passed up
-pub risen_told : (e : device.Refusal) → told (risen e) ≡ passed_up (told-by-device e)
+pub risen_told : (e : device.Refusal) → told (risen e) ≡ passed_up (told_by_device e)
 risen_told (refusals.Jammed f) = refl
 risen_told refusals.Unsettled = refl
 risen_told refusals.OutOfRange = refl

@@ -3,7 +3,7 @@ use Rattle.std.specs.Prelude.{◌≡◌, ℕ, ◌-◌, ◌<◌, ◌≤◌, List,
 use Rattle.states.specs.declared.row.Row.{Row}
 use Rattle.states.specs.Table.{Table, no_row}
 use Rattle.plan.specs.declared.fault.Fault.{Fault}
-use Rattle.plan.specs.declared.fault.Fault.TheVariants.{Line, TooManyRows, Table as Unfit-table, Length, Memory}
+use Rattle.plan.specs.declared.fault.Fault.TheVariants.{Line, TooManyRows, Table as UnfitTable, Length, Memory}
 use Rattle.plan.specs.declared.sheet.Sheet.{Sheet}
 use Rattle.plan.specs.Text.{RowLine, IsRowFault}
 
@@ -20,7 +20,7 @@ abbrev pub Added : ℕ → List ℕ → List Row → List Row → Result (Unit {
 Added line text before after (Ok x) = (row : Row) × RowLine text row × (after ≡ before ++ row ∷ []) × (length before < 16)
 Added line text before after (Err (Line n why)) = (n ≡ line) × (after ≡ before) × (length before < 16) × ((row : Row) → RowLine text row → ⊥)
 Added line text before after (Err (TooManyRows n)) = (n ≡ line) × (after ≡ before) × (16 ≤ length before)
-Added line text before after (Err (Unfit-table why)) = ⊥
+Added line text before after (Err (UnfitTable why)) = ⊥
 Added line text before after (Err (Length n)) = ⊥
 Added line text before after (Err Memory) = after ≡ before
 
@@ -29,6 +29,6 @@ abbrev pub Blamed : List ℕ → Result (Unit {0}) Fault → Type 0
 Blamed text (Ok x) = Unit {0}
 Blamed text (Err (Line n why)) = IsRowFault text why
 Blamed text (Err (TooManyRows n)) = Unit {0}
-Blamed text (Err (Unfit-table why)) = Unit {0}
+Blamed text (Err (UnfitTable why)) = Unit {0}
 Blamed text (Err (Length n)) = Unit {0}
 Blamed text (Err Memory) = Unit {0}

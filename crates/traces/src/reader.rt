@@ -9,7 +9,7 @@ use crate::event::{Fault, Record, Refusal};
 use crate::order::Stage;
 
 /// The most bytes of a trace.
-pub const MAX_TRACE: usize = 65_536;
+const MAX_TRACE: usize = 65_536;
 
 /// A trace, the offset of what is left to read of it, and the stage there.
 #[derive(Drop)]

@@ -3,7 +3,7 @@ use Rattle.std.proofs.lemmas.Result.{err_from_is_err_and}
 use Rattle.states.specs.Table.{at}
 use Rattle.states.specs.Energy.{floor_of}
 use Rattle.states.specs.Gathered.{held_rows}
-use Rattle.devices.specs.Meaning.{Refused, told as told-by-device, wake_refusal}
+use Rattle.devices.specs.Meaning.{Refused, told as told_by_device, wake_refusal}
 use Rattle.manager.specs.declared.account.Account.{Account}
 use Rattle.manager.specs.Rules.{Managed, refused, closed, roused, waking}
 use Rattle.manager.specs.Meaning.{rows_in, meaning}
@@ -14,11 +14,11 @@ pub returns-in_err-wake : goal.returns-in_err-wake
 returns-in_err-wake g c =
     let m = meaning g.D.StateTable.table g.D.Device.status c.args.self.now in
     let why = c.in_err-wake.field-0.0 in
-    let no-wake = refused_by (wake_refusal m.device) _ (told-by-device why) c.in_err-wake.ensures.value in
+    let no_wake = refused_by (wake_refusal m.device) _ (told_by_device why) c.in_err-wake.ensures.value in
     let p = err_from_is_err_and c.from_residual.result c.from_residual.ensures.1 in
     rw (p.1, p.2) (record {
-      value = ap refused (risen_told why) ∙ ap (λ (x : Option Refused). (waking m x).answer) (sym no-wake);
-      after = c.rouse.ensures.after ∙ ap (roused m) no-wake ∙ ap (λ (x : Option Refused). (waking m x).after) (sym no-wake);
+      value = ap refused (risen_told why) ∙ ap (λ (x : Option Refused). (waking m x).answer) (sym no_wake);
+      after = c.rouse.ensures.after ∙ ap (roused m) no_wake ∙ ap (λ (x : Option Refused). (waking m x).after) (sym no_wake);
     })
 
 pub close-energy-requires : goal.close-energy-requires
