@@ -19,8 +19,11 @@ SPECIAL = {
     "row-at-getD": "row_at-get_or",
     "get_or-map-range_with_len": "get_or-map-range_with_len",
 }
-# Lemmas of answer files, beside the goals, whose names the toolchain makes.
-LOCAL = ["by-content", "finally-more", "last-leads", "not-ended", "shown-is", "shown-once", "total-all", "total-more", "turned-back", "two-rows"]
+# Lemmas of answer files, beside the goals, whose names the toolchain makes; parameters and other local names.
+LOCAL = (
+    "by-content finally-more last-leads not-ended shown-is shown-once total-all total-more turned-back two-rows "
+    "after-a after-b down-a down-b no-wake rail-energy rail-power same-a same-b told-by-device Unfit-table up-a up-b"
+).split()
 DEFINES = re.compile(r"^\s*(?:(?:pub|abbrev|unfoldable|record|data)\s+)*([^\s(){};:,.\"]+)\s*(?:[({].*)?(?:\s:\s|\s:$)")
 WORD = re.compile(r"\"[^\"]*\"|[^\s(){}\[\];:,.\"`@«»]+")
 ANSWERS = ("Answers.antt", "Invariants.antt")
