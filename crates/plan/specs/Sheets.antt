@@ -24,11 +24,11 @@ Added line text before after (Err (UnfitTable why)) = ⊥
 Added line text before after (Err (Length n)) = ⊥
 Added line text before after (Err Memory) = after ≡ before
 
--- a line that is no row is refused with the fault that it has
+-- a line that is no row is refused with the fault that it has, and memory runs out only for one that is a row
 abbrev pub Blamed : List ℕ → Result (Unit {0}) Fault → Type 0
 Blamed text (Ok x) = Unit {0}
 Blamed text (Err (Line n why)) = IsRowFault text why
 Blamed text (Err (TooManyRows n)) = Unit {0}
 Blamed text (Err (UnfitTable why)) = Unit {0}
 Blamed text (Err (Length n)) = Unit {0}
-Blamed text (Err Memory) = Unit {0}
+Blamed text (Err Memory) = (row : Row) × RowLine text row
