@@ -1,5 +1,6 @@
 -- A clean gap charged from its last tick back, state by state.
-use Rattle.std.proofs.Common.{◌≡◌, ℕ, zero, suc, ◌+◌, ◌-◌, ◌*◌, ◌<◌, ◌≤◌, List, length, get_or, sym, refl, ap, ◌∙◌, arith}
+use Rattle.std.proofs.Common.{◌≡◌, ℕ, zero, suc, ◌+◌, ◌-◌, ◌*◌, ◌<◌, ◌≤◌, List, [], ◌∷◌, ◌++◌, length, get_or, sym, refl, ap, ◌∙◌, append_assoc, length-append, arith}
+use Rattle.std.proofs.Math.Seq.{get_or-append_seam}
 use Rattle.states.specs.declared.row.Row.{Row}
 use Rattle.states.specs.Table.{no_row, row_at, power_at, wake_at}
 use Rattle.states.specs.Energy.{envelope_rule, energy_of}
@@ -21,29 +22,24 @@ energy_is : (rows : List Row) (gap : ℕ) → (gap ≡ 0 → ⊥) → energy_of 
 energy_is rows zero h = absurd (h refl)
 energy_is rows (suc gap) h = refl
 
--- `read` are the rows as the code reads them
-module _ (rows read : List Row) (same : read ≡ rows) (fit : Fit rows) (gap : ℕ) where
-  read_is : (k : ℕ) → k < length rows → get_or read k no_row ≡ row_at rows k
-  read_is k h = ap (λ rs. get_or rs k no_row) same ∙ sym (row_at-get_or rows k h)
-
+module _ (rows : List Row) (fit : Fit rows) (gap : ℕ) where
   inside : (k : ℕ) → envelope_rule rows k < length rows
   inside k = (rule_envelope rows k (shape rows fit).some).inside
 
-  pub charged_none : (energy left : ℕ) → left ≡ envelope_rule rows gap → energy ≡ (get_or read left no_row).wake → Charged rows gap gap energy (length read)
-  charged_none energy left at is = record {
+  -- at first the wake energy is charged, read from the rows
+  pub charged_none : (read : List Row) (energy left : ℕ) → read ≡ rows → left ≡ envelope_rule rows gap → energy ≡ (get_or read left no_row).wake → Charged rows gap gap energy (length rows)
+  charged_none read energy left same at is = record {
     within = omega arith;
-    whole = omega (arith, is, ap (λ k. (get_or read k no_row).wake) at, ap (λ (r : Row). r.wake) (read_is (envelope_rule rows gap) (inside gap)));
-    left = λ k h b. omega (arith, ap length same, inside k);
+    whole = omega (arith, is, ap (λ rs. (get_or rs left no_row).wake) same, ap (λ k. (get_or rows k no_row).wake) at, ap (λ (r : Row). r.wake) (row_at-get_or rows (envelope_rule rows gap) (inside gap)));
+    left = λ k h b. inside k;
   }
 
   -- one state more
-  pub charged_more : (until energy state ticks q t : ℕ) → Charged rows gap until energy state → 0 < state → state ≤ length read → ticks ≤ until → NotDeeper rows (state - 1) (until - ticks) → HeldBetween rows (state - 1) (until - ticks) until → q ≡ (get_or read (state - 1) no_row).power → t ≡ ticks → Charged rows gap (until - ticks) (energy + q * t) (state - 1)
-  charged_more until energy state ticks q t c h l few before held is count =
-      let s = state - 1 in
-      let row : q ≡ power_at rows s = is ∙ ap (λ (r : Row). r.power) (read_is s (omega (arith, ap length same))) in
-      let level = powers_level rows s (until - ticks) until (omega arith) held in
+  pub charged_more : (until energy state ticks q t : ℕ) → Charged rows gap until energy (state + 1) → state < length rows → ticks ≤ until → NotDeeper rows state (until - ticks) → HeldBetween rows state (until - ticks) until → q ≡ power_at rows state → t ≡ ticks → Charged rows gap (until - ticks) (energy + q * t) state
+  charged_more until energy state ticks q t c l few before held is count =
+      let level = powers_level rows state (until - ticks) until (omega arith) held in
       let back : until - (until - ticks) ≡ ticks = omega arith in
-      let product : power_at rows s * (until - (until - ticks)) ≡ q * t = rw (back, row, count) refl in
+      let product : power_at rows state * (until - (until - ticks)) ≡ q * t = rw (back, is, count) refl in
       record { within = omega (arith, c.within); whole = omega (arith, c.whole, level, product); left = before }
 
   pub charged_bound : (until energy state : ℕ) → Charged rows gap until energy state → energy ≤ 1000000 * gap + 1000000000
@@ -52,3 +48,19 @@ module _ (rows read : List Row) (same : read ≡ rows) (fit : Fit rows) (gap : �
   pub charged_all : (until energy state : ℕ) → (gap ≡ 0 → ⊥) → Charged rows gap until energy state → state ≡ 0 → energy ≡ energy_of rows gap
   charged_all zero energy state some c none = omega (arith, c.whole, energy_is rows gap some)
   charged_all (suc until) energy state some c none = absurd (omega (arith, c.left (suc until) (omega arith) (omega arith)))
+
+-- the rows of the states that are not charged yet are the front of the table; `count` is where the code counts them from
+pub record ChargedDownTo (rows : List Row) (gap until energy count : ℕ) (rest : List Row) : Type 0 where
+  pub charged : Charged rows gap until energy (length rest)
+  pub counted : count ≡ 0
+  pub behind : List Row
+  pub split : rows ≡ rest ++ behind
+
+pub front : (rows old rest behind : List Row) (row : Row) → rows ≡ old ++ behind → old ≡ rest ++ row ∷ [] → rows ≡ rest ++ (row ∷ behind)
+front rows old rest behind row split is = split ∙ ap (λ l. l ++ behind) is ∙ append_assoc rest (row ∷ []) behind
+
+-- the last row of the front is that of the state with its number
+pub front_row : (rows rest behind : List Row) (row : Row) → rows ≡ rest ++ (row ∷ behind) → (length rest < length rows) × (row ≡ row_at rows (length rest))
+front_row rows rest behind row split =
+    let few : length rest < length rows = omega (arith, ap length split, length-append rest (row ∷ behind)) in
+    (few, sym (row_at-get_or rows (length rest) few ∙ ap (λ rs. get_or rs (length rest) no_row) split ∙ get_or-append_seam rest row behind no_row))

@@ -1,20 +1,14 @@
--- The loops that test a table against the tests of the specification.
+-- The loop that tests the order of a table against the test of the specification.
 use Rattle.std.proofs.Common.{◌≡◌, ℕ, suc, ◌+◌, ◌-◌, ◌<◌, ◌≤◌, Bool, true, ◌&&◌, eqb, List, [], ◌∷◌, length, get_or, take, drop, sym, refl, ap, ◌∙◌, arith}
 use Rattle.std.proofs.lemmas.List.{at_drop_more, at_drop_all, take_all}
 use Rattle.std.proofs.lemmas.Bool.{eq-eqb, and_from}
 use Rattle.states.specs.declared.row.Row.{Row}
 use Rattle.states.specs.Table.{no_row}
-use Rattle.states.specs.Fit.{within, all_within, deepens, all_deepen, ordered}
+use Rattle.states.specs.Fit.{deepens, all_deepen, ordered}
 
 module _ (rows : List Row) (i : ℕ) (h : i < length rows) (t : Bool) where
-  pub within_more : t ≡ within (get_or rows i no_row) → all_within (drop i rows) ≡ (t && all_within (drop (i + 1) rows))
-  within_more e = at_drop_more all_within rows i no_row h ∙ ap (λ b. b && all_within (drop (i + 1) rows)) (sym e)
-
   pub deepen_more : (above : Row) → t ≡ deepens above (get_or rows i no_row) → all_deepen above (drop i rows) ≡ (t && all_deepen (get_or rows i no_row) (drop (i + 1) rows))
   deepen_more above e = at_drop_more (all_deepen above) rows i no_row h ∙ ap (λ b. b && all_deepen (get_or rows i no_row) (drop (i + 1) rows)) (sym e)
-
-pub within_all : (rows : List Row) (i : ℕ) → length rows ≤ i → all_within (drop i rows) ≡ true
-within_all rows i h = at_drop_all all_within rows i h
 
 pub deepen_all : (above : Row) (rows : List Row) (i : ℕ) → length rows ≤ i → all_deepen above (drop i rows) ≡ true
 deepen_all above rows i h = at_drop_all (all_deepen above) rows i h

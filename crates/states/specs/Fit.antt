@@ -1,5 +1,6 @@
 -- Which tables are fit, and which number refuses one that is not.
 use Rattle.std.specs.Prelude.{◌≡◌, ℕ, suc, ◌<◌, ◌≤◌, Bool, true, cond, ◌&&◌, List, [], ◌∷◌, length, Some, None, Ok, Err, Option, Result, ◌==◌, nat_le, nat_lt}
+use Rattle.std.specs.List.{list_all}
 use Rattle.states.specs.declared.row.Row.{Row}
 use Rattle.states.specs.declared.unfit.Unfit.{Unfit}
 use Rattle.states.specs.declared.unfit.Unfit.TheVariants.{StateCount, Number, Order}
@@ -15,8 +16,7 @@ within row = nat_le row.power 1000000 && (nat_le row.wake 1000000000 && nat_le r
 
 -- so is each number of the table
 abbrev pub all_within : List Row → Bool
-all_within [] = true
-all_within (row ∷ rows) = within row && all_within rows
+all_within rows = list_all within rows
 
 -- from one state to the next power falls, wake energy rises, and latency does not fall
 abbrev pub deepens : Row → Row → Bool

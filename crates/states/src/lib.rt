@@ -8,8 +8,7 @@ mod row;
 mod state_table;
 mod unfit;
 
-pub use fit_rows::FitRows;
-pub use fit_rows::plan::Totals;
+pub use fit_rows::{FitRows, Totals};
 pub use row::Row;
 pub use state_table::{StateTable, first_tick, floor};
 pub use unfit::Unfit;

@@ -14,7 +14,7 @@ pub const MAX_WAKE: u32 = 1_000_000_000;
 pub const MAX_LATENCY: u32 = 100_000;
 
 /// A state: the units that a tick in it draws, the energy that waking from it draws, and the ticks that waking takes.
-#[derive(Clone, Copy)]
+#[derive(Clone, Copy, Debug, Default, PartialEq, Eq)]
 pub struct Row {
     pub power: u32,
     pub wake: u32,

@@ -6,6 +6,7 @@ ghost use Rattle.states.specs.Energy.{floor_of};
 ghost use Rattle.states.specs.Ticks.{first_tick};
 
 use crate::fit_rows::FitRows;
+use crate::row::Row;
 use crate::unfit::Unfit;
 
 /// A state table. A question about a state beyond the deepest is answered as for the deepest.
@@ -27,6 +28,17 @@ pub trait StateTable {
     /// The ticks that waking from a state takes.
     fn latency(&self, state: u8) -> u32
         ensures { result ≡ (at (table self.now) state).latency };
+
+    /// All three, as a row.
+    fn row(&self, state: u8) -> Row
+        ensures { result ≡ at (table self.now) state }
+    {
+        Row {
+            power: self.power(state),
+            wake: self.wake_energy(state),
+            latency: self.latency(state),
+        }
+    }
 }
 
 /// The floor of a gap of `length` ticks on any table, or why the table is not fit.

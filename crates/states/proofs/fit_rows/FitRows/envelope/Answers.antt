@@ -2,7 +2,6 @@ use Rattle.std.proofs.Common.{◌≡◌, ℕ, ◌-◌, ◌<◌, ◌≤◌, List,
 use Rattle.states.specs.declared.row.Row.{Row}
 use Rattle.states.specs.Table.{no_row, cost}
 use Rattle.states.specs.Overtake.{DeepestFrom}
-use Rattle.states.specs.Gathered.{held_rows}
 use Rattle.states.specs.Envelope.{Envelope, envelope_of}
 use Rattle.states.specs.Energy.{envelope_rule}
 use Rattle.states.specs.Fit.{Fit}
@@ -38,14 +37,14 @@ last_found rows held n r c same some leads late e =
 
 pub returns-then-n-self : goal.returns-then-n-self
 returns-then-n-self c =
-    let rows = held_rows c.args.self.now.gathered in
+    let rows = c.args.self.now.rows in
     let n = c.args.n in
     let found = last_found _ rows n _ c.cost_of.result c.rows-rows.ensures.value (omega (arith, c.rows-rows.ensures.some)) c.args.self.now.deepest c.if-n-self.true c.cost_of.ensures in
     record { value = one rows n _ found; least = found; descends = descent rows n _ c.args.self.now.fit (one rows n _ found); shape = never_shallower rows c.args.self.now.fit }
 
 pub returns : goal.returns
 returns c =
-    let rows = held_rows c.args.self.now.gathered in
+    let rows = c.args.self.now.rows in
     let n = c.args.n in
     let best = best_all c.rows-rows.result.now n c.loop-i.i c.loop-i.state c.loop-i.least c.loop-i.invariant c.loop-i-test.false in
     let found : Envelope rows n (c.loop-i.state, c.loop-i.least) = rw c.rows-rows.ensures.value at best in

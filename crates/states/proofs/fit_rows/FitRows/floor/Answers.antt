@@ -1,5 +1,4 @@
 use Rattle.std.proofs.Common.{◌≡◌, ℕ, sym, ap, ◌∙◌, subst, arith}
-use Rattle.states.specs.Gathered.{held_rows}
 use Rattle.states.specs.Energy.{floor_of}
 use Rattle.states.specs.Laws.{BestSchedule}
 use Rattle.states.proofs.Shape.{shape}
@@ -9,7 +8,7 @@ use Rattle.states.proofs.fit_rows.FitRows.floor.Goals as goal
 
 pub returns-then-length-eq0 : goal.returns-then-length-eq0
 returns-then-length-eq0 c =
-    let rows = held_rows c.args.self.now.gathered in
+    let rows = c.args.self.now.rows in
     let fit = c.args.self.now.fit in
     let gap = c.args.length in
     let value : 0 ≡ floor_of rows gap = sym (ap (floor_of rows) c.if-length-eq0.true ∙ floor_none rows) in
@@ -17,7 +16,7 @@ returns-then-length-eq0 c =
 
 pub returns : goal.returns
 returns c =
-    let rows = held_rows c.args.self.now.gathered in
+    let rows = c.args.self.now.rows in
     let fit = c.args.self.now.fit in
     let gap = c.args.length in
     let value = ap (λ (b : ℕ × ℕ). b.1) c.envelope-least.ensures.value ∙ floor_some rows gap c.if-length-eq0.false in

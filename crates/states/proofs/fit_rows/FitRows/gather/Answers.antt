@@ -2,7 +2,6 @@ use Rattle.std.proofs.Common.{◌≡◌, ℕ, ◌-◌, ◌<◌, List, length, Ok
 use Rattle.std.proofs.lemmas.Result.{err_from_is_err_and}
 use Rattle.states.specs.declared.row.Row.{Row}
 use Rattle.states.specs.Table.{rows_of}
-use Rattle.states.specs.Gathered.{held_rows}
 use Rattle.states.specs.Overtake.{Leads, DeepestFrom}
 use Rattle.states.specs.Fit.{unfitness}
 use Rattle.states.specs.declared.unfit.Unfit.TheVariants.{StateCount}
@@ -21,7 +20,7 @@ pub returns-in_err-fitness : goal.returns-in_err-fitness
 returns-in_err-fitness g c =
     let t = g.T.StateTable.table c.args.table.now in
     let p = err_from_is_err_and c.from_residual.result c.from_residual.ensures.1 in
-    let refused = c.in_err-fitness.ensures ∙ ap unfitness c.from_table-gathered.ensures in
+    let refused = c.in_err-fitness.ensures ∙ ap unfitness c.from_table-rows.ensures in
     rw (p.1, p.2) (record { refusal = refused; value = tt; words = in_words {X = Unit {0}} (rows_of t) (Err c.in_err-fitness.field-0.0) refused })
 
 pub leads_from-deepest_from-requires : goal.leads_from-deepest_from-requires
@@ -29,7 +28,7 @@ leads_from-deepest_from-requires g c =
     let t = g.T.StateTable.table c.args.table.now in
     record {
       fit = rw c.rows.ensures.value (fit_from_none _ (sym c.in_ok-fitness.ensures));
-      inside = omega (arith, ap length c.rows.ensures.value, ap length c.from_table-gathered.ensures, length-rows_of t);
+      inside = omega (arith, ap length c.rows.ensures.value, ap length c.from_table-rows.ensures, length-rows_of t);
     }
 
 -- where the last state leads, the deepest costs less than each other
@@ -40,7 +39,7 @@ last_leads rows held i r same last some leads n j late below =
 pub invariant_of-result : goal.invariant_of-result
 invariant_of-result g c =
     let t = g.T.StateTable.table c.args.table.now in
-    let last : c.deepest-2.result ≡ length (held_rows c.from_table-gathered.result) - 1 = omega (arith, ap length c.from_table-gathered.ensures, length-rows_of t) in
+    let last : c.deepest-2.result ≡ length c.from_table-rows.result - 1 = omega (arith, ap length c.from_table-rows.ensures, length-rows_of t) in
     record {
       fit = fit_from_none _ (sym c.in_ok-fitness.ensures);
       deepest = last_leads _ _ _ _ c.rows.ensures.value last c.leads_from-deepest_from.ensures.some c.leads_from-deepest_from.ensures.leads;
@@ -49,5 +48,5 @@ invariant_of-result g c =
 pub returns : goal.returns
 returns g c =
     let t = g.T.StateTable.table c.args.table.now in
-    let fit = c.in_ok-fitness.ensures ∙ ap unfitness c.from_table-gathered.ensures in
-    record { refusal = fit; value = c.from_table-gathered.ensures; words = in_words {X = Unit {0}} (rows_of t) (Ok tt) fit }
+    let fit = c.in_ok-fitness.ensures ∙ ap unfitness c.from_table-rows.ensures in
+    record { refusal = fit; value = c.from_table-rows.ensures; words = in_words {X = Unit {0}} (rows_of t) (Ok tt) fit }

@@ -1,6 +1,5 @@
 use Rattle.std.proofs.Common.{◌≡◌, ℕ, ◌+◌, ◌<◌, ◌≤◌, List, length, get_or, drop, sym, ◌∙◌, subst, arith}
 use Rattle.std.proofs.lemmas.List.{at_drop_more, at_drop_all}
-use Rattle.states.specs.Gathered.{held_rows}
 use Rattle.states.specs.Energy.{floor_of, energy_of, total}
 use Rattle.states.specs.Laws.{BestPlan}
 use Rattle.states.proofs.Gaps.{gaps_within_twice, best_plan}
@@ -16,7 +15,7 @@ total_all f gaps i sum h inv = omega (arith, at_drop_all (total f) gaps i h)
 
 pub loop-gap-preserved : goal.loop-gap-preserved
 loop-gap-preserved c =
-    let rows = held_rows c.args.self.now.gathered in
+    let rows = c.args.self.now.rows in
     let gaps = c.args.gaps.now in
     let i = c.loop-gap.gap-index in (
       total_more (energy_of rows) gaps i c.loop-gap.totals.energy c.from.result c.loop-gap-test.true (c.from.ensures ∙ c.energy.ensures.value) c.loop-gap.invariant.0,
@@ -28,7 +27,7 @@ loop-gap-preserved c =
 
 pub returns : goal.returns
 returns c =
-    let rows = held_rows c.args.self.now.gathered in
+    let rows = c.args.self.now.rows in
     let gaps = c.args.gaps.now in
     let fit = c.args.self.now.fit in
     let energy = total_all (energy_of rows) gaps c.loop-gap.gap-index c.loop-gap.totals.energy c.loop-gap-test.false c.loop-gap.invariant.0 in

@@ -1,6 +1,6 @@
 use Rattle.std.proofs.Common.{sym, ◌∙◌}
 use Rattle.states.proofs.Tested.{below_first, ordered_from, deepen_more, deepen_all}
-use Rattle.states.proofs.gathered.gather.is_ordered.Goals as goal
+use Rattle.states.proofs.gathered.is_ordered.Goals as goal
 
 pub returns-then-not-is_below : goal.returns-then-not-is_below
 returns-then-not-is_below c =

@@ -1,6 +1,6 @@
 use Rattle.std.proofs.Common.{◌≡◌, drop}
 use Rattle.states.specs.Fit.{all_deepen}
-use Rattle.states.proofs.gathered.gather.is_ordered.Given as goal
+use Rattle.states.proofs.gathered.is_ordered.Given as goal
 
 -- what is left decides
 abbrev pub invariant-loop-row : goal.invariant-loop-row
