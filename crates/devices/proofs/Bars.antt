@@ -3,7 +3,7 @@ use Rattle.std.proofs.Common.{◌≡◌, ℕ, ◌≤◌, Bool, true, not, ◌||�
 use Rattle.std.proofs.lemmas.Bool.{cond-true, cond-false, cond_both, le-ltb, eq-eqb, eqb-true, ltb-false, or_from, or_parts, not_from_true, not-false}
 use Rattle.states.specs.Table.{Table, at}
 use Rattle.devices.specs.declared.device.Part.{Part}
-use Rattle.devices.specs.Meaning.{Status, Refused, plain, fault_of, reply, jam_between, hold_bar, wake_bar, hold_refusal, wake_refusal}
+use Rattle.devices.specs.Meaning.{Status, Refused, plain, reply, jam_between, hold_bar, wake_bar, hold_refusal, wake_refusal}
 
 -- no fault, or no move
 abbrev pub Clear : ℕ → ℕ → Option Part → Type 0
@@ -64,16 +64,6 @@ free_wake settled state fault h f =
     (λ e. cond-true (eqb state 0) None _ (eq-eqb state 0 e))
     (λ e. cond_both (eqb state 0) None (jam_between state 0 fault) (λ o. o ≡ None) (λ _. refl) (λ _. clear_move state 0 fault e))
     f
-
--- what a device answers to the questions tells whether its hold is barred
-pub asked_hold : (t : Table) (s : Status) (i : ℕ) {settled : Bool} {state deepest : ℕ} {fault : Option Part} → settled ≡ s.settled → state ≡ s.state → deepest ≡ t.deepest → fault ≡ fault_of s.parts → None ≡ hold_bar settled state deepest fault i → hold_refusal t s i ≡ None
-asked_hold t s i {settled} {state} {deepest} {fault} e f g h bar =
-    sym (bar ∙ (ap (λ x. hold_bar x state deepest fault i) e ∙ (ap (λ x. hold_bar s.settled x deepest fault i) f ∙ (ap (λ x. hold_bar s.settled s.state x fault i) g ∙ ap (λ x. hold_bar s.settled s.state t.deepest x i) h))))
-
--- and whether its wake-up is
-pub asked_wake : (s : Status) {settled : Bool} {state : ℕ} {fault : Option Part} → settled ≡ s.settled → state ≡ s.state → fault ≡ fault_of s.parts → None ≡ wake_bar settled state fault → wake_refusal s ≡ None
-asked_wake s {settled} {state} {fault} e f h bar =
-    sym (bar ∙ (ap (λ x. wake_bar x state fault) e ∙ (ap (λ x. wake_bar s.settled x fault) f ∙ ap (λ x. wake_bar s.settled s.state x) h)))
 
 -- a command that nothing bars is not refused
 never_refused : (r : Refused) (bar : Option Refused) (energy : ℕ) → bar ≡ None → Err r ≡ reply bar energy → ⊥

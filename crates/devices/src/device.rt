@@ -1,20 +1,33 @@
-//! What a device is: what it means beside its state table, and the commands that every make of device answers alike.
+//! What a device is: what it means beside its state table, and which commands are refused, for every make of device alike.
 ghost use Rattle.std.specs.Prelude.{◌≡◌, ◌≤◌, true};
+ghost use Rattle.std.specs.Result.{result_err};
 ghost use Rattle.states.specs.Table.{at};
-ghost use Rattle.devices.specs.Meaning.{Status, told, told_bar, told_reply, fault_of, jam_between, hold_bar, wake_bar, hold_refusal, wake_refusal, held, woken, reply, left, bears, reported, layered_fault};
+ghost use Rattle.devices.specs.Meaning.{Status, told, told_bar, told_reply, fault_of, jam_between, hold_refusal, wake_refusal, held, woken, reply, left, bears, reported, layered};
 
 use states::StateTable;
 
 /// A basic device as its pile shows it: its number, its fault code (0 if sound) and the layers above it, 255 at most.
-#[derive(Clone, Copy)]
+#[derive(Clone, Copy, Debug, PartialEq, Eq)]
 pub struct Part {
     pub number: u16,
     pub code: u32,
     pub depth: u8,
 }
 
+impl Part {
+    /// The part as seen from one layer further up.
+    pub(crate) fn layered(self) -> Part
+        ensures { result ≡ layered self }
+    {
+        Part {
+            depth: self.depth.saturating_add(1),
+            ..self
+        }
+    }
+}
+
 /// A move that a faulty part holds up: the part, and the states from and to.
-#[derive(Clone, Copy)]
+#[derive(Clone, Copy, Debug, PartialEq, Eq)]
 pub struct Fault {
     pub number: u16,
     pub code: u32,
@@ -24,7 +37,7 @@ pub struct Fault {
 }
 
 /// Why a command is refused.
-#[derive(Clone, Copy)]
+#[derive(Clone, Copy, Debug, PartialEq, Eq)]
 pub enum Refusal {
     Unsettled,
     OutOfRange,
@@ -65,6 +78,38 @@ pub trait Device: StateTable {
     fn fault(&self) -> Option<Part>
         ensures { result ≡ fault_of (status self.now).parts };
 
+    /// Whether nothing refuses to hold a state. The refusals are tried in this order, for every make of device.
+    fn may_hold(&self, to: u8) -> Result<(), Refusal>
+        ensures { told_bar (result_err result) ≡ hold_refusal (Self.StateTable.table self.now) (status self.now) to }
+    {
+        if !self.settled() {
+            return Err(Refusal::Unsettled);
+        }
+        let state = self.state();
+        if to < state || to > self.deepest() {
+            return Err(Refusal::OutOfRange);
+        }
+        if to == state {
+            Ok(())
+        } else {
+            pass(state, to, self.fault())
+        }
+    }
+
+    /// Whether nothing refuses to wake it, tried in the same order.
+    fn may_wake(&self) -> Result<(), Refusal>
+        ensures { told_bar (result_err result) ≡ wake_refusal (status self.now) }
+    {
+        let state = self.state();
+        if !self.settled() {
+            Err(Refusal::Unsettled)
+        } else if state == 0 {
+            Ok(())
+        } else {
+            pass(state, 0, self.fault())
+        }
+    }
+
     /// Holds a state, as deep as the present one or deeper, for a tick. Answers the power of that state.
     fn hold(&mut self, state: u8) -> Result<u32, Refusal>
         ensures value { told_reply result ≡ reply (hold_refusal (Self.StateTable.table self.old) (status self.old) state) (at (Self.StateTable.table self.old) state).power }
@@ -84,70 +129,18 @@ pub trait Device: StateTable {
         ensures same { Self.StateTable.table self.new ≡ Self.StateTable.table self.old };
 }
 
-/// What bars a move between two states that differ.
-fn jam(from: u8, to: u8, fault: Option<Part>) -> Option<Refusal>
-    ensures { told_bar result ≡ jam_between «from» to fault }
+/// A move between two states that differ, which a fault holds up.
+fn pass(from: u8, to: u8, fault: Option<Part>) -> Result<(), Refusal>
+    ensures { told_bar (result_err result) ≡ jam_between «from» to fault }
 {
     match fault {
-        Some(part) => Some(Refusal::Jammed(Fault {
+        Some(part) => Err(Refusal::Jammed(Fault {
             number: part.number,
             code: part.code,
             depth: part.depth,
             from,
             to,
         })),
-        None => None,
-    }
-}
-
-/// What bars a hold, by a device's answers to the questions.
-pub(crate) fn hold_bar(
-    settled: bool,
-    state: u8,
-    deepest: u8,
-    fault: Option<Part>,
-    to: u8,
-) -> Option<Refusal>
-    ensures { told_bar result ≡ hold_bar settled state deepest fault to }
-{
-    if !settled {
-        return Some(Refusal::Unsettled);
-    }
-    if to < state || to > deepest {
-        return Some(Refusal::OutOfRange);
-    }
-    if to == state {
-        None
-    } else {
-        jam(state, to, fault)
-    }
-}
-
-/// What bars a wake-up, by a device's answers to the questions.
-pub(crate) fn wake_bar(settled: bool, state: u8, fault: Option<Part>) -> Option<Refusal>
-    ensures { told_bar result ≡ wake_bar settled state fault }
-{
-    if settled {
-        if state == 0 {
-            None
-        } else {
-            jam(state, 0, fault)
-        }
-    } else {
-        Some(Refusal::Unsettled)
-    }
-}
-
-/// A fault as seen from one layer further up.
-pub(crate) fn layered(fault: Option<Part>) -> Option<Part>
-    ensures { result ≡ layered_fault fault }
-{
-    match fault {
-        Some(part) => Some(Part {
-            number: part.number,
-            code: part.code,
-            depth: part.depth.saturating_add(1),
-        }),
-        None => None,
+        None => Ok(()),
     }
 }

@@ -2,31 +2,35 @@
 ghost use Rattle.std.specs.Prelude.{◌≡◌, ◌+◌};
 ghost use Rattle.devices.specs.Pair.{capped, joined_table, joined_status};
 
-use crate::device::{Device, Part, Refusal, hold_bar, layered, wake_bar};
+use crate::device::{Device, Part, Refusal};
 use states::StateTable;
 
-/// Two devices behind a rail. The rail draws its power in each state but the deepest, and its energy to wake from the deepest.
+/// What a rail draws: its power in each state but the deepest, and its energy to wake from the deepest.
+#[derive(Clone, Copy, Debug, PartialEq, Eq)]
+pub struct Rail {
+    pub power: u32,
+    pub energy: u32,
+}
+
+/// Two devices behind a rail.
 #[derive(Drop)]
 pub struct Joined<A, B> {
     first: A,
     second: B,
-    rail_power: u32,
-    rail_energy: u32,
+    rail: Rail,
 }
 
 impl<A, B> Joined<A, B> {
     /// Joins two devices, each in the state that it is in.
-    pub fn new(first: A, second: B, rail_power: u32, rail_energy: u32) -> Joined<A, B>
+    pub fn new(first: A, second: B, rail: Rail) -> Joined<A, B>
         ensures first { result.first ≡ first }
         ensures second { result.second ≡ second }
-        ensures rail_power { result.rail_power ≡ rail_power }
-        ensures rail_energy { result.rail_energy ≡ rail_energy }
+        ensures rail { result.rail ≡ rail }
     {
         Joined {
             first,
             second,
-            rail_power,
-            rail_energy,
+            rail,
         }
     }
 }
@@ -39,31 +43,31 @@ fn capped_sum(a: u32, b: u32, c: u32) -> u32
 }
 
 impl<A: StateTable, B: StateTable> StateTable for Joined<A, B> {
-    ghost table = { λ j. joined_table (A.StateTable.table j.first) (B.StateTable.table j.second) j.rail_power j.rail_energy };
+    ghost table = { λ j. joined_table (A.StateTable.table j.first) (B.StateTable.table j.second) j.rail.power j.rail.energy };
 
     fn deepest(&self) -> u8 {
         self.first.deepest().max(self.second.deepest())
     }
 
     fn power(&self, state: u8) -> u32 {
-        let rail = if self.deepest() <= state {
+        let extra = if self.deepest() <= state {
             0
         } else {
-            self.rail_power
+            self.rail.power
         };
-        capped_sum(self.first.power(state), self.second.power(state), rail)
+        capped_sum(self.first.power(state), self.second.power(state), extra)
     }
 
     fn wake_energy(&self, state: u8) -> u32 {
-        let rail = if state < self.deepest() {
+        let extra = if state < self.deepest() {
             0
         } else {
-            self.rail_energy
+            self.rail.energy
         };
         capped_sum(
             self.first.wake_energy(state),
             self.second.wake_energy(state),
-            rail,
+            extra,
         )
     }
 
@@ -92,19 +96,14 @@ impl<A: Device, B: Device> Device for Joined<A, B> {
     }
 
     fn fault(&self) -> Option<Part> {
-        layered(self.first.fault().or(self.second.fault()))
+        self.first
+            .fault()
+            .or(self.second.fault())
+            .map(Part::layered)
     }
 
     fn hold(&mut self, state: u8) -> Result<u32, Refusal> {
-        if let Some(refusal) = hold_bar(
-            self.settled(),
-            self.state(),
-            self.deepest(),
-            self.fault(),
-            state,
-        ) {
-            return Err(refusal);
-        }
+        self.may_hold(state)?;
         let first = state.min(self.first.deepest());
         let second = state.min(self.second.deepest());
         let energy = self.power(state);
@@ -114,9 +113,7 @@ impl<A: Device, B: Device> Device for Joined<A, B> {
     }
 
     fn wake(&mut self) -> Result<u32, Refusal> {
-        if let Some(refusal) = wake_bar(self.settled(), self.state(), self.fault()) {
-            return Err(refusal);
-        }
+        self.may_wake()?;
         let energy = self.wake_energy(self.state());
         self.first.wake()?;
         self.second.wake()?;

@@ -2,7 +2,7 @@
 ghost use Rattle.std.specs.Prelude.{◌≡◌};
 ghost use Rattle.devices.specs.Limit.{shown_deepest, ShownInWords, limited_table, limited_status};
 
-use crate::device::{Device, Part, Refusal, hold_bar, layered, wake_bar};
+use crate::device::{Device, Part, Refusal};
 use states::StateTable;
 
 /// A device that is not let into states whose latency is above a limit, nor into any that is deeper than one of them.
@@ -72,26 +72,16 @@ impl<D: Device> Device for LatencyLimit<D> {
     }
 
     fn fault(&self) -> Option<Part> {
-        layered(self.device.fault())
+        self.device.fault().map(Part::layered)
     }
 
     fn hold(&mut self, state: u8) -> Result<u32, Refusal> {
-        if let Some(refusal) = hold_bar(
-            self.settled(),
-            self.state(),
-            self.deepest(),
-            self.fault(),
-            state,
-        ) {
-            return Err(refusal);
-        }
+        self.may_hold(state)?;
         self.device.hold(state)
     }
 
     fn wake(&mut self) -> Result<u32, Refusal> {
-        if let Some(refusal) = wake_bar(self.settled(), self.state(), self.fault()) {
-            return Err(refusal);
-        }
+        self.may_wake()?;
         self.device.wake()
     }
 

@@ -2,7 +2,7 @@
 ghost use Rattle.std.specs.Prelude.{◌≡◌, ◌*◌, min, slice_index};
 ghost use Rattle.devices.specs.Rows.{number_at, well_formed, row_table, basic, basic_status, told_rows, told_made, made};
 
-use crate::device::{Device, Part, Refusal, hold_bar, wake_bar};
+use crate::device::{Device, Part, Refusal};
 use states::StateTable;
 
 /// The bytes of a row: power, wake energy and latency, 4 bytes each, the lowest first.
@@ -18,7 +18,7 @@ const DEEPEST: usize = 15;
 const BAD_ROWS: u8 = 15;
 
 /// The rows are not 12 to 192 bytes and a multiple of 12.
-#[derive(Clone, Copy)]
+#[derive(Clone, Copy, Debug, PartialEq, Eq)]
 pub struct BadRows;
 
 impl BadRows {
@@ -77,7 +77,7 @@ fn is_well_formed(rows: &[u8]) -> bool
 fn byte_at(rows: &[u8], place: usize) -> u8
     ensures { result ≡ slice_index rows.now place }
 {
-    if place < rows.len() { rows[place] } else { 0 }
+    rows.get(place).copied().unwrap_or(0)
 }
 
 /// The number in the 4 bytes from a place on, the lowest byte first.
@@ -141,24 +141,14 @@ impl<'a> Device for TableDevice<'a> {
     }
 
     fn hold(&mut self, state: u8) -> Result<u32, Refusal> {
-        if let Some(refusal) = hold_bar(
-            self.settled(),
-            self.state,
-            self.deepest(),
-            self.fault(),
-            state,
-        ) {
-            return Err(refusal);
-        }
+        self.may_hold(state)?;
         self.state = state;
         self.held = self.held.saturating_add(1);
         Ok(self.power(state))
     }
 
     fn wake(&mut self) -> Result<u32, Refusal> {
-        if let Some(refusal) = wake_bar(self.settled(), self.state, self.fault()) {
-            return Err(refusal);
-        }
+        self.may_wake()?;
         let energy = self.wake_energy(self.state);
         self.state = 0;
         Ok(energy)

@@ -12,5 +12,5 @@ returns g c =
     record {
       value = bears_pair c.args.number a.parts b.parts first.value second.value;
       after = reported_together (g.A.StateTable.table j.first) (g.B.StateTable.table j.second) a b c.args.number c.args.code first.same second.same first.after second.after;
-      same = table_of_halves j.rail_power j.rail_energy first.same second.same;
+      same = table_of_halves j.rail.power j.rail.energy first.same second.same;
     }

@@ -1,29 +1,29 @@
-use Rattle.devices.specs.Pair.{joined_status}
-use Rattle.devices.proofs.Bars.{asked_wake, wake_never, free_answer}
+use Rattle.std.proofs.Common.{sym}
+use Rattle.devices.proofs.Bars.{wake_never, free_answer}
 use Rattle.devices.proofs.Halves.{BothWaking, wake_halves, woken_together, table_of_halves}
 use Rattle.devices.proofs.joined.JoinedDevice.wake.Given as given
 use Rattle.devices.proofs.joined.JoinedDevice.wake.Goals as goal
-use Rattle.devices.proofs.joined.JoinedDevice.wake.Goals.{In_default}
+use Rattle.devices.proofs.joined.JoinedDevice.wake.Goals.{In_ok-may_wake}
 
--- past the bar, neither half refuses
-free : (g : given.Over) (c : goal.In_default g) → BothWaking (g.A.StateTable.table c.args.self.now.first) (g.B.StateTable.table c.args.self.now.second) (g.A.Device.status c.args.self.now.first) (g.B.Device.status c.args.self.now.second)
+-- what the pair does not refuse, neither half refuses
+free : (g : given.Over) (c : goal.In_ok-may_wake g) → BothWaking (g.A.StateTable.table c.args.self.now.first) (g.B.StateTable.table c.args.self.now.second) (g.A.Device.status c.args.self.now.first) (g.B.Device.status c.args.self.now.second)
 free g c =
     let j = c.args.self.now in
     let ta = g.A.StateTable.table j.first in
     let tb = g.B.StateTable.table j.second in
     let a = g.A.Device.status j.first in
     let b = g.B.Device.status j.second in
-    wake_halves ta tb a b (asked_wake (joined_status ta a tb b) c.settled.ensures.value c.state.ensures c.fault.ensures c.in_default.ensures)
+    wake_halves ta tb a b (sym c.in_ok-may_wake.ensures)
 
 pub returns-in_err-wake : goal.returns-in_err-wake
 returns-in_err-wake g c =
     let d = c.args.self.now.first in
-    absurd (wake_never (g.A.StateTable.table d) (g.A.Device.status d) (free g (goal.at.returns-in_err-wake g c).In_default).first c.in_err-wake.ensures.value)
+    absurd (wake_never (g.A.StateTable.table d) (g.A.Device.status d) (free g (goal.at.returns-in_err-wake g c).In_ok-may_wake).first c.in_err-wake.ensures.value)
 
 pub returns-in_err-wake-2 : goal.returns-in_err-wake-2
 returns-in_err-wake-2 g c =
     let d = c.args.self.now.second in
-    absurd (wake_never (g.B.StateTable.table d) (g.B.Device.status d) (free g (goal.at.returns-in_err-wake-2 g c).In_default).second c.in_err-wake-2.ensures.value)
+    absurd (wake_never (g.B.StateTable.table d) (g.B.Device.status d) (free g (goal.at.returns-in_err-wake-2 g c).In_ok-may_wake).second c.in_err-wake-2.ensures.value)
 
 pub returns : goal.returns
 returns g c =
@@ -32,11 +32,11 @@ returns g c =
     let tb = g.B.StateTable.table j.second in
     let a = g.A.Device.status j.first in
     let b = g.B.Device.status j.second in
-    let both = free g (goal.at.returns g c).In_default in
+    let both = free g (goal.at.returns g c).In_ok-may_wake in
     let first = c.wake.ensures in
     let second = c.wake-2.ensures in
     record {
-      value = free_answer both.pair (rw c.state-2.ensures at c.wake_energy-energy.ensures);
+      value = free_answer both.pair (rw c.state.ensures at c.wake_energy-energy.ensures);
       after = woken_together ta tb a b both first.same second.same first.after second.after;
-      same = table_of_halves j.rail_power j.rail_energy first.same second.same;
+      same = table_of_halves j.rail.power j.rail.energy first.same second.same;
     }

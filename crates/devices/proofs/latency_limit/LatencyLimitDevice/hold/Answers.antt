@@ -1,7 +1,6 @@
-use Rattle.std.proofs.Common.{ap}
+use Rattle.std.proofs.Common.{sym, ap}
 use Rattle.states.specs.Table.{Table}
-use Rattle.devices.specs.Limit.{limited_table, limited_status}
-use Rattle.devices.proofs.Bars.{asked_hold}
+use Rattle.devices.specs.Limit.{limited_table}
 use Rattle.devices.proofs.Limited.{hold_answer, hold_leaves}
 use Rattle.devices.proofs.latency_limit.LatencyLimitDevice.hold.Goals as goal
 
@@ -11,7 +10,7 @@ returns g c =
     let t = g.D.StateTable.table l.device in
     let s = g.D.Device.status l.device in
     let told = c.hold.ensures in
-    let bar = asked_hold (limited_table t l.limit) (limited_status t s l.limit) c.args.state c.settled.ensures.value c.state.ensures c.deepest.ensures c.fault.ensures c.in_default.ensures in
+    let bar = sym c.in_ok-may_hold.ensures in
     record {
       value = hold_answer t s l.limit c.args.state bar told.value;
       after = hold_leaves t s l.limit c.args.state bar told.same told.after;

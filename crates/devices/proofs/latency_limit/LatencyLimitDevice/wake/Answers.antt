@@ -1,7 +1,6 @@
-use Rattle.std.proofs.Common.{ap}
+use Rattle.std.proofs.Common.{sym, ap}
 use Rattle.states.specs.Table.{Table}
-use Rattle.devices.specs.Limit.{limited_table, limited_status}
-use Rattle.devices.proofs.Bars.{asked_wake}
+use Rattle.devices.specs.Limit.{limited_table}
 use Rattle.devices.proofs.Limited.{wake_answer, wake_leaves}
 use Rattle.devices.proofs.latency_limit.LatencyLimitDevice.wake.Goals as goal
 
@@ -11,7 +10,7 @@ returns g c =
     let t = g.D.StateTable.table l.device in
     let s = g.D.Device.status l.device in
     let told = c.wake.ensures in
-    let bar = asked_wake (limited_status t s l.limit) c.settled.ensures.value c.state.ensures c.fault.ensures c.in_default.ensures in
+    let bar = sym c.in_ok-may_wake.ensures in
     record {
       value = wake_answer t s l.limit bar told.value;
       after = wake_leaves t s l.limit bar told.same told.after;
