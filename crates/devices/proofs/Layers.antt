@@ -2,13 +2,14 @@
 use Rattle.std.proofs.Common.{◌≡◌, ℕ, Bool, true, false, cond, ◌||◌, eqb, List, [], ◌∷◌, ◌++◌, map, Some, None, Option, sym, refl, ap, ◌∙◌, arith}
 use Rattle.std.specs.Option.{option_or}
 use Rattle.devices.specs.declared.device.Part.{Part}
-use Rattle.devices.specs.Meaning.{fault_of, bears, coded, layered, layered_fault}
+use Rattle.std.specs.Option.{option_map}
+use Rattle.devices.specs.Meaning.{fault_of, bears, coded, layered}
 
 -- the fault of layered parts is the layered fault
-pub fault_layered : (ps : List Part) → fault_of (map layered ps) ≡ layered_fault (fault_of ps)
+pub fault_layered : (ps : List Part) → fault_of (map layered ps) ≡ option_map layered (fault_of ps)
 fault_layered [] = refl
 fault_layered (p ∷ ps) =
-    elim (eqb p.code 0) as (λ b. cond b (fault_of (map layered ps)) (Some (layered p)) ≡ layered_fault (cond b (fault_of ps) (Some p))) [
+    elim (eqb p.code 0) as (λ b. cond b (fault_of (map layered ps)) (Some (layered p)) ≡ option_map layered (cond b (fault_of ps) (Some p))) [
       | true ↦ fault_layered ps
       | false ↦ refl
     ]
@@ -51,7 +52,7 @@ coded_layered n c (p ∷ ps) =
 -- layered parts are sound only if those below are
 pub sound_below : (ps : List Part) → fault_of (map layered ps) ≡ None → fault_of ps ≡ None
 sound_below ps e = sound (fault_of ps) (sym (fault_layered ps) ∙ e) where
-  sound : (o : Option Part) → layered_fault o ≡ None → o ≡ None
+  sound : (o : Option Part) → option_map layered o ≡ None → o ≡ None
   sound None _ = refl
   sound (Some p) h = absurd (grind arith)
 

@@ -13,6 +13,10 @@ pub record Status : Type 0 where
   pub parts : List Part
   pub settled : Bool
 
+-- what is told of the devices of one make: the table of each, and what it means beside that
+abbrev pub Make : Type 0 → Type 0
+Make D = record { table : D → Table; status : D → Status }
+
 -- a refusal as the rules tell it: its number, and the values that it names
 pub record Refused : Type 0 where
   pub number : ℕ
@@ -111,8 +115,3 @@ reported s number code = record { state = s.state; held = s.held; parts = map (c
 -- a part as seen from one layer further up
 abbrev pub layered : Part → Part
 layered p = record { number = p.number; code = p.code; depth = min (p.depth + 1) 255 }
-
--- a fault as seen from one layer further up
-abbrev pub layered_fault : Option Part → Option Part
-layered_fault None = None
-layered_fault (Some p) = Some (layered p)

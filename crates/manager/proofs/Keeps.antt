@@ -1,15 +1,12 @@
 -- What calls leave as it is, from every manager: what a lease hangs on, and what a refusal does not touch.
-use Rattle.std.proofs.Common.{◌≡◌, ℕ, zero, suc, ◌&&◌, eqb, leb, replicate, IfOk, Some, None, Ok, Err, Option, Result, sym, refl, ap, ◌∙◌, subst, arith}
+use Rattle.std.proofs.Common.{◌≡◌, ℕ, zero, suc, ◌&&◌, eqb, leb, replicate, Some, None, Option, sym, refl, ap, ◌∙◌, subst, arith}
 use Rattle.std.proofs.lemmas.Bool.{cond_both, cond-true, and_from, eq-eqb}
 use Rattle.devices.specs.Meaning.{Refused, hold_refusal, wake_refusal, bears}
 use Rattle.manager.specs.declared.account.Account.{Account}
-use Rattle.manager.specs.declared.lease.Lease.{Lease}
-use Rattle.manager.specs.declared.manager.ClosedGap.{ClosedGap}
-use Rattle.manager.specs.declared.refusal.Refusal.{Refusal}
 use Rattle.manager.specs.Charges.{marked}
-use Rattle.manager.specs.Rules.{Condition, shut, idle, busy, Managed, tick, request, release, report, refused, closed, Closing, Outcome, holding, idle_tick_by, aim, tick_in, waking, request_in, release_in, freed, reporting, report_in, done}
+use Rattle.manager.specs.Rules.{Condition, shut, idle, busy, Managed, tick, request, release, report, refused, Outcome, holding, idle_tick_by, aim, tick_in, waking, request_in, release_in, freed, reporting, report_in, done}
 use Rattle.manager.specs.Runs.{finally}
-use Rattle.manager.specs.Meaning.{told_closed, Waits, KeepsLease}
+use Rattle.manager.specs.Meaning.{Waits, KeepsLease}
 
 -- condition, number and count stay
 pub record SameTerms (m n : Managed) : Type 0 where
@@ -125,21 +122,3 @@ kept m n s manager count w = record { condition = s.condition ∙ w.condition; n
 
 pub tick_keeps : (m n : Managed) → n ≡ (done m tick).after → KeepsLease m n
 tick_keeps m n e = subst (KeepsLease m) (sym e) (kept m (done m tick).after (tick_terms m))
-
--- the lease of a closed gap is the one that the manager then waits for
-module _ (m : Managed) (g : Closing) where
-  waking_waits : (r : Option Refused) → (waking m r).answer ≡ closed g → Waits (waking m r).after g.manager g.count
-  waking_waits None = λ e. record { condition = refl; number = cc; gaps = cc }
-  waking_waits (Some r) = λ e. let z : ◌≡◌ {A = ℕ} 0 1 = cc in absurd (omega arith)
-
-  request_in_waits : (c : Condition) → (request_in c m).answer ≡ closed g → Waits (request_in c m).after g.manager g.count
-  request_in_waits (shut n) = λ e. let z : ◌≡◌ {A = ℕ} 0 1 = cc in absurd (omega arith)
-  request_in_waits busy = λ e. let z : ◌≡◌ {A = ℕ} 0 1 = cc in absurd (omega arith)
-  request_in_waits idle =
-      cond_both (leb 1000000 m.account.gaps) _ _ (λ (o : Outcome). o.answer ≡ closed g → Waits o.after g.manager g.count)
-      (λ _ e. let z : ◌≡◌ {A = ℕ} 0 1 = cc in absurd (omega arith))
-      (λ _. waking_waits (wake_refusal m.device))
-
-pub leased : (m n : Managed) (r : Result (Lease × ClosedGap) Refusal) → told_closed r ≡ (done m request).answer → n ≡ (done m request).after → IfOk r (λ x. Waits n x.0.manager x.0.count)
-leased m n (Ok x) v e = subst (λ k. Waits k x.0.manager x.0.count) (sym e) (request_in_waits m _ m.condition (sym v))
-leased m n (Err y) v e = tt

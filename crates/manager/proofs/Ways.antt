@@ -1,17 +1,17 @@
 -- Steps of the rules as the code takes them.
-use Rattle.std.proofs.Common.{◌≡◌, ℕ, ◌+◌, ◌<◌, ◌≤◌, Bool, false, eqb, leb, List, [], ◌∷◌, map, Some, None, Ok, Err, Option, Result, sym, refl, ap, ◌∙◌, ap₂, arith}
-use Rattle.std.proofs.lemmas.Bool.{cond-true, cond-false, or_parts, le-leb, lt-leb}
+use Rattle.std.proofs.Common.{◌≡◌, ℕ, ◌+◌, ◌<◌, Bool, false, eqb, leb, List, [], ◌∷◌, map, Some, None, Ok, Err, Option, Result, sym, refl, ap, ◌∙◌, ap₂, arith}
+use Rattle.std.proofs.lemmas.Bool.{cond-false, or_parts, lt-leb}
 use Rattle.states.specs.declared.row.Row.{Row}
 use Rattle.states.specs.Table.{Table, at}
 use Rattle.states.specs.Energy.{floor_of}
-use Rattle.devices.specs.Meaning.{Status, Refused, plain, hold_refusal, wake_refusal, held, reply, left, bears, coded, reported, told as told_by_device}
+use Rattle.devices.specs.Meaning.{Status, Refused, hold_refusal, held, reply, left, bears, coded, reported, told as told_by_device}
 use Rattle.devices.specs.declared.device.Part.{Part}
 use Rattle.devices.specs.declared.device.Refusal as device
 use Rattle.devices.specs.declared.device.Refusal.TheVariants as refusals
 use Rattle.manager.specs.declared.account.Account.{Account}
 use Rattle.manager.specs.Charges.{settle}
 use Rattle.manager.specs.Told.{told, risen, passed_up}
-use Rattle.manager.specs.Rules.{Condition, idle, busy, Managed, tick, request, refuse, aim, busy_tick, idle_tick, idle_tick_by, stuck_tick, tick_in, Closing, closing, roused, waking, request_in, done}
+use Rattle.manager.specs.Rules.{Condition, idle, busy, Managed, tick, aim, busy_tick, idle_tick, idle_tick_by, stuck_tick, tick_in, Closing, closing, roused, waking, done}
 
 pub refused_by : (x : Option Refused) (p : ℕ) (r : Refused) → ◌≡◌ {A = Result ℕ Refused} (Err r) (reply x p) → x ≡ Some r
 refused_by None p r e = let z : ◌≡◌ {A = ℕ} 0 1 = cc in absurd (omega arith)
@@ -47,14 +47,8 @@ unborne number code (p ∷ ps) h =
 pub unreported : (s : Status) (number code : ℕ) → bears number s.parts ≡ false → reported s number code ≡ s
 unreported s number code h = ap (λ (ps : List Part). over_parts s ps) (unborne number code s.parts h)
 
--- a tick by the manager's condition and the limit
+-- a tick below the limit, by the manager's condition
 module _ (m : Managed) where
-  pub idle_limit : m.condition ≡ idle → 1000000 ≤ m.account.ticks → done m tick ≡ refuse m (plain 23)
-  idle_limit c l = ap (λ (x : Condition). tick_in x m) c ∙ cond-true (leb 1000000 m.account.ticks) _ _ (le-leb 1000000 m.account.ticks l)
-
-  pub busy_limit : m.condition ≡ busy → 1000000 ≤ m.account.ticks → done m tick ≡ refuse m (plain 23)
-  busy_limit c l = ap (λ (x : Condition). tick_in x m) c ∙ cond-true (leb 1000000 m.account.ticks) _ _ (le-leb 1000000 m.account.ticks l)
-
   pub idle_goes : m.condition ≡ idle → m.account.ticks < 1000000 → (i : ℕ) → i ≡ aim m → done m tick ≡ idle_tick m i
   idle_goes c l i e = ap (λ (x : Condition). tick_in x m) c ∙ cond-false (leb 1000000 m.account.ticks) _ _ (lt-leb 1000000 m.account.ticks l) ∙ ap (idle_tick m) (sym e)
 
@@ -96,7 +90,3 @@ pub closing_same :
     manager ≡ m.number → count ≡ m.account.gaps + 1 → length ≡ m.account.length → energy ≡ (closing m).energy → least ≡ (closing m).floor → stuck ≡ m.account.mark → from ≡ m.device.state → latency ≡ (closing m).latency →
     ◌≡◌ {A = Closing} (record { manager = manager; count = count; length = length; energy = energy; floor = least; stuck = stuck; from = from; latency = latency }) (closing m)
 closing_same m manager count length energy least stuck from latency a b c d e f h i = rw (a, b, c, d, e, f, h, i) refl
-
--- a request of an idle manager that has room for a gap
-pub request_goes : (m : Managed) → m.condition ≡ idle → m.account.gaps < 1000000 → done m request ≡ waking m (wake_refusal m.device)
-request_goes m c l = ap (λ (x : Condition). request_in x m) c ∙ cond-false (leb 1000000 m.account.gaps) _ _ (lt-leb 1000000 m.account.gaps l)

@@ -1,10 +1,8 @@
 -- What a manager of the code means, and its answers as the rules tell them.
 use Rattle.std.specs.Prelude.{◌≡◌, ℕ, List, [], Some, None, Ok, Err, Option, Result}
 use Rattle.states.specs.declared.row.Row.{Row}
-use Rattle.states.specs.Table.{Table}
-use Rattle.states.specs.Gathered.{held_rows}
 use Rattle.devices.specs.declared.device.Fault.{Fault}
-use Rattle.devices.specs.Meaning.{Status, Refused}
+use Rattle.devices.specs.Meaning.{Make, Refused}
 use Rattle.manager.specs.declared.manager.Standing.{Standing}
 use Rattle.manager.specs.declared.manager.Standing.TheVariants as standings
 use Rattle.manager.specs.declared.manager.Ticked.{Ticked}
@@ -25,15 +23,15 @@ condition_of (standings.Busy rows) = busy
 -- the rows that attach gathered
 abbrev pub rows_in : Standing → List Row
 rows_in (standings.Shut u) = []
-rows_in (standings.Idle rows) = held_rows rows.gathered
-rows_in (standings.Busy rows) = held_rows rows.gathered
+rows_in (standings.Idle rows) = rows.rows
+rows_in (standings.Busy rows) = rows.rows
 
 -- the manager, from what its device means
-abbrev pub meaning : {D : Type 0} → (D → Table) → (D → Status) → Manager D → Managed
-meaning table status m = record {
+abbrev pub meaning : {D : Type 0} → Make D → Manager D → Managed
+meaning make m = record {
   number = m.number;
-  table = table m.device;
-  device = status m.device;
+  table = make.table m.device;
+  device = make.status m.device;
   condition = condition_of m.standing;
   rows = rows_in m.standing;
   account = m.books.account;

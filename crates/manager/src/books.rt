@@ -3,7 +3,7 @@ ghost use Rattle.std.specs.Prelude.{◌≡◌, ◌+◌, ◌*◌, ◌<◌, ◌≤
 ghost use Rattle.manager.specs.Tallying.{Within};
 ghost use Rattle.manager.specs.Charges.{empty, busy_charge, open_charge, settle, marked};
 
-use crate::account::{Account, Tallies};
+use crate::account::Account;
 
 /// An account that stays within bounds, whatever a device answers: a tick and a wake-up add at most 32 bits of energy
 /// each, and a floor is at most 1,000,000 units for each tick of its gap.
@@ -24,18 +24,7 @@ impl Books {
         ensures { result.account ≡ empty }
     {
         Books {
-            account: Account {
-                clean: 0,
-                floor: 0,
-                stuck: 0,
-                busy: 0,
-                pending: 0,
-                length: 0,
-                mark: false,
-                ticks: 0,
-                gaps: 0,
-                tallies: Tallies::new(),
-            },
+            account: Account::default(),
         }
     }
 

@@ -1,4 +1,5 @@
 //! The lease of a device that is awake.
+ghost use Rattle.std.specs.Prelude.{◌≡◌, ◌&&◌, ◌==◌};
 
 /// The right to a device that is awake. It can be neither copied nor let go: only `release` takes it back.
 pub struct Lease {
@@ -30,5 +31,3 @@ impl Lease {
         (manager, count)
     }
 }
-
-ghost use Rattle.std.specs.Prelude.{◌≡◌, ◌&&◌, ◌==◌};

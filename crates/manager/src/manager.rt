@@ -6,7 +6,7 @@ use devices::Fault;
 use states::FitRows;
 
 /// What a tick held, what it drew, and the fault that held its move up, if one did.
-#[derive(Clone, Copy)]
+#[derive(Clone, Copy, Debug, PartialEq, Eq)]
 pub struct Ticked {
     pub state: u8,
     pub energy: u32,
@@ -14,7 +14,7 @@ pub struct Ticked {
 }
 
 /// The gap that a request closed.
-#[derive(Clone, Copy)]
+#[derive(Clone, Copy, Debug, PartialEq, Eq)]
 pub struct ClosedGap {
     /// Its ticks.
     pub length: u32,

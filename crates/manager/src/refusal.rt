@@ -1,12 +1,13 @@
 //! Why a call is refused.
 ghost use Rattle.std.specs.Prelude.{◌≡◌};
 ghost use Rattle.manager.specs.Told.{unattached_number, told, risen};
+ghost use Rattle.manager.specs.declared.refusal.Unattached.TheVariants as UnattachedIs;
 
 use devices::Fault;
 use states::Unfit;
 
 /// Why a device is not taken on.
-#[derive(Clone, Copy)]
+#[derive(Clone, Copy, Debug, PartialEq, Eq)]
 pub enum Unattached {
     /// It is unsettled or not in state 0.
     NotAwake,
@@ -26,8 +27,17 @@ impl Unattached {
     }
 }
 
+/// A table that is not fit keeps its device from being taken on.
+impl From<Unfit> for Unattached {
+    ghost from_gives = { λ e r. r ≡ UnattachedIs.Unfit e };
+
+    fn from(e: Unfit) -> Unattached {
+        Unattached::Unfit(e)
+    }
+}
+
 /// Why a call is refused.
-#[derive(Clone, Copy)]
+#[derive(Clone, Copy, Debug, PartialEq, Eq)]
 pub enum Refusal {
     /// Attach was refused.
     Attach(Unattached),

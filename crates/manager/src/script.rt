@@ -14,7 +14,7 @@ use devices::Device;
 use std::alloc::{AllocError, Global};
 
 /// A call by its numbers. A release bears whatever two numbers a lease may bear.
-#[derive(Clone, Copy)]
+#[derive(Clone, Copy, Debug, PartialEq, Eq)]
 pub enum Step {
     Tick,
     Request,
@@ -23,10 +23,9 @@ pub enum Step {
     Figures,
 }
 
-/// What a call answered. A lease is told by its two numbers.
-#[derive(Clone, Copy)]
+/// What an accepted call answered. A lease is told by its two numbers.
+#[derive(Clone, Copy, Debug, PartialEq, Eq)]
 pub enum Reply {
-    Refused(Refusal),
     Ticked(Ticked),
     Closed {
         manager: u16,
@@ -40,39 +39,33 @@ pub enum Reply {
 
 impl<D: Device> Manager<D> {
     /// Makes a call. A lease goes no further than its two numbers.
-    fn take(&mut self, step: Step) -> Reply
-        ensures value { answer_of result ≡ (done (meaning D.StateTable.table D.Device.status self.old) (call_of step)).answer }
-        ensures after { meaning D.StateTable.table D.Device.status self.new ≡ (done (meaning D.StateTable.table D.Device.status self.old) (call_of step)).after }
+    fn take(&mut self, step: Step) -> Result<Reply, Refusal>
+        ensures value { answer_of result ≡ (done (meaning D.Device self.old) (call_of step)).answer }
+        ensures after { meaning D.Device self.new ≡ (done (meaning D.Device self.old) (call_of step)).after }
     {
         match step {
-            Step::Tick => match self.tick() {
-                Ok(ticked) => Reply::Ticked(ticked),
-                Err(why) => Reply::Refused(why),
-            },
-            Step::Request => match self.request() {
-                Ok((lease, gap)) => {
-                    let (manager, count) = lease.spend();
-                    Reply::Closed {
-                        manager,
-                        count,
-                        gap,
-                    }
-                }
-                Err(why) => Reply::Refused(why),
-            },
+            Step::Tick => Ok(Reply::Ticked(self.tick()?)),
+            Step::Request => {
+                let (lease, gap) = self.request()?;
+                let (manager, count) = lease.spend();
+                Ok(Reply::Closed {
+                    manager,
+                    count,
+                    gap,
+                })
+            }
             Step::Release { manager, count } => match self.release(Lease::new(manager, count)) {
-                Ok(()) => Reply::Released,
-                Err(back) => {
-                    let HandedBack { lease, why } = back;
+                Ok(()) => Ok(Reply::Released),
+                Err(HandedBack { lease, why }) => {
                     lease.spend();
-                    Reply::Refused(why)
+                    Err(why)
                 }
             },
-            Step::Report { number, code } => match self.report(number, code) {
-                Ok(()) => Reply::Reported,
-                Err(why) => Reply::Refused(why),
-            },
-            Step::Figures => Reply::Shown(self.figures()),
+            Step::Report { number, code } => {
+                self.report(number, code)?;
+                Ok(Reply::Reported)
+            }
+            Step::Figures => Ok(Reply::Shown(self.figures())),
         }
     }
 }
@@ -85,7 +78,7 @@ pub fn account_after<D: Device + Drop>(number: u16, device: D, steps: &[Step]) -
 {
     let mut manager = Manager::attach(number, device);
     for step in steps {
-        manager.take(*step);
+        let _ = manager.take(*step);
     }
     manager.figures()
 }
@@ -96,7 +89,7 @@ pub fn replies_to<D: Device + Drop>(
     number: u16,
     device: D,
     steps: &[Step],
-) -> Result<Vec<Reply>, AllocError>
+) -> Result<Vec<Result<Reply, Refusal>>, AllocError>
     ensures { IfOk result (λ replies. map answer_of replies.items ≡ answers (started number (D.StateTable.table device) (D.Device.status device)) (map call_of steps.now)) }
 {
     let mut manager = Manager::attach(number, device);

@@ -101,8 +101,8 @@ fn show_figures(rt: &HostRuntime, account: Account) -> io::Result<()> {
 
 /// Gives back the lease that the manager waits for.
 fn give_back<D: Device>(modem: &mut Manager<D>, lease: Lease)
-    requires { Waits (meaning D.StateTable.table D.Device.status modem.old) lease.manager lease.count }
-    ensures { meaning D.StateTable.table D.Device.status modem.new ≡ (done (meaning D.StateTable.table D.Device.status modem.old) (release lease.manager lease.count)).after }
+    requires { Waits (meaning D.Device modem.old) lease.manager lease.count }
+    ensures { meaning D.Device modem.new ≡ (done (meaning D.Device modem.old) (release lease.manager lease.count)).after }
 {
     match modem.release(lease) {
         Ok(()) => {}
@@ -112,7 +112,7 @@ fn give_back<D: Device>(modem: &mut Manager<D>, lease: Lease)
 
 /// Lets a modem work for some ticks. A lease that is out stays out.
 fn work<D: Device>(modem: &mut Manager<D>, ticks: u32) -> Result<(), Refusal>
-    ensures { KeepsLease (meaning D.StateTable.table D.Device.status modem.old) (meaning D.StateTable.table D.Device.status modem.new) }
+    ensures { KeepsLease (meaning D.Device modem.old) (meaning D.Device modem.new) }
 {
     for _ in 0..ticks {
         modem.tick()?;

@@ -16,7 +16,7 @@ use devices::Device;
 impl<D: Device> Manager<D> {
     /// Why attach was refused, if it was.
     pub fn refusal(&self) -> Option<Unattached>
-        ensures { told_unattached result ≡ turned_away (meaning D.StateTable.table D.Device.status self.now).condition }
+        ensures { told_unattached result ≡ turned_away (meaning D.Device self.now).condition }
     {
         match self.standing {
             Standing::Shut(why) => Some(why),
@@ -28,8 +28,8 @@ impl<D: Device> Manager<D> {
     /// energy balances, each clean gap costs between its floor and twice its floor, and the clean floor is what the
     /// best clairvoyant schedule of the clean gaps costs.
     pub fn figures(&self) -> Account
-        ensures value { shown result ≡ (done (meaning D.StateTable.table D.Device.status self.now) figures).answer }
-        ensures laws { (number : ℕ) (t : Table) (s : Status) (cs : List Call) → meaning D.StateTable.table D.Device.status self.now ≡ finally (started number t s) cs → Laws t (history (started number t s) cs) result }
+        ensures value { shown result ≡ (done (meaning D.Device self.now) figures).answer }
+        ensures laws { (number : ℕ) (t : Table) (s : Status) (cs : List Call) → meaning D.Device self.now ≡ finally (started number t s) cs → Laws t (history (started number t s) cs) result }
     {
         self.books.account()
     }

@@ -18,12 +18,12 @@ shown_once a b e = cc
 
 pub loop-step-preserved : goal.loop-step-preserved
 loop-step-preserved g c =
-    finally_more (meaning g.D.StateTable.table g.D.Device.status c.loop-step.manager) _ c.args.steps.now c.loop-step.step-index _ c.loop-step-test.true c.take.ensures.after ∙ c.loop-step.invariant
+    finally_more (meaning (record { table = g.D.StateTable.table; status = g.D.Device.status }) c.loop-step.manager) _ c.args.steps.now c.loop-step.step-index _ c.loop-step-test.true c.take.ensures.after ∙ c.loop-step.invariant
 
 pub returns : goal.returns
 returns g c =
     let steps = c.args.steps.now in
-    let m = meaning g.D.StateTable.table g.D.Device.status c.loop-step.manager in
+    let m = meaning (record { table = g.D.StateTable.table; status = g.D.Device.status }) c.loop-step.manager in
     let led = sym (at_drop_all (λ (ss : List Step). finally m (map call_of ss)) steps c.loop-step.step-index c.loop-step-test.false) ∙ c.loop-step.invariant ∙ ap (λ (x : Managed). finally x (map call_of steps)) c.attach-manager.ensures in
     record {
       value = shown_once c.figures.result m.account c.figures.ensures.value ∙ ap (λ (x : Managed). x.account) led;

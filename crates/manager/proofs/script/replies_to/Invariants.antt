@@ -7,5 +7,5 @@ use Rattle.manager.proofs.script.replies_to.Given as goal
 -- the replies so far, and then what the rest of the list is answered
 abbrev pub invariant-loop-step : goal.invariant-loop-step
 invariant-loop-step g l =
-    map answer_of (vec_items l.replies) ++ answers (meaning g.D.StateTable.table g.D.Device.status l.manager) (map call_of (drop l.step-index l.steps))
-    ≡ answers (meaning g.D.StateTable.table g.D.Device.status l.initial.manager) (map call_of l.steps)
+    map answer_of (vec_items l.replies) ++ answers (meaning (record { table = g.D.StateTable.table; status = g.D.Device.status }) l.manager) (map call_of (drop l.step-index l.steps))
+    ≡ answers (meaning (record { table = g.D.StateTable.table; status = g.D.Device.status }) l.initial.manager) (map call_of l.steps)

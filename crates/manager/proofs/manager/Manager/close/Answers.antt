@@ -2,7 +2,6 @@ use Rattle.std.proofs.Common.{◌≡◌, ℕ, ◌+◌, Option, sym, ap, ◌∙�
 use Rattle.std.proofs.lemmas.Result.{err_from_is_err_and}
 use Rattle.states.specs.Table.{at}
 use Rattle.states.specs.Energy.{floor_of}
-use Rattle.states.specs.Gathered.{held_rows}
 use Rattle.devices.specs.Meaning.{Refused, told as told_by_device, wake_refusal}
 use Rattle.manager.specs.declared.account.Account.{Account}
 use Rattle.manager.specs.Rules.{Managed, refused, closed, roused, waking}
@@ -12,7 +11,7 @@ use Rattle.manager.proofs.manager.Manager.close.Goals as goal
 
 pub returns-in_err-wake : goal.returns-in_err-wake
 returns-in_err-wake g c =
-    let m = meaning g.D.StateTable.table g.D.Device.status c.args.self.now in
+    let m = meaning (record { table = g.D.StateTable.table; status = g.D.Device.status }) c.args.self.now in
     let why = c.in_err-wake.field-0.0 in
     let no_wake = refused_by (wake_refusal m.device) _ (told_by_device why) c.in_err-wake.ensures.value in
     let p = err_from_is_err_and c.from_residual.result c.from_residual.ensures.1 in
@@ -23,7 +22,7 @@ returns-in_err-wake g c =
 
 pub close-energy-requires : goal.close-energy-requires
 close-energy-requires g c =
-    let m = meaning g.D.StateTable.table g.D.Device.status c.args.self.now in
+    let m = meaning (record { table = g.D.StateTable.table; status = g.D.Device.status }) c.args.self.now in
     let woken = accepted_by (wake_refusal m.device) _ c.in_ok-wake.wake c.in_ok-wake.ensures.value in
     let same = ap (λ (x : Managed). x.account) (c.rouse.ensures.after ∙ ap (roused m) woken.0) in
     record {
@@ -33,9 +32,9 @@ close-energy-requires g c =
 
 pub returns : goal.returns
 returns g c =
-    let m = meaning g.D.StateTable.table g.D.Device.status c.args.self.now in
-    let last = meaning g.D.StateTable.table g.D.Device.status c.rouse.new.self in
-    let rows = held_rows c.args.rows.gathered in
+    let m = meaning (record { table = g.D.StateTable.table; status = g.D.Device.status }) c.args.self.now in
+    let last = meaning (record { table = g.D.StateTable.table; status = g.D.Device.status }) c.rouse.new.self in
+    let rows = c.args.rows.rows in
     let woken = accepted_by (wake_refusal m.device) _ c.in_ok-wake.wake c.in_ok-wake.ensures.value in
     let after = c.rouse.ensures.after ∙ ap (roused m) woken.0 in
     let before = c.account-before.ensures in

@@ -37,7 +37,7 @@ returns-in-Ok g c =
     record {
       ready = record {
         number = c.requires.number ∙ sym (ap (λ (n : Managed). n.number) went);
-        out = subst (Out (meaning g.D.StateTable.table g.D.Device.status c.release.new.self)) (sym c.take.ensures.after) (ap (λ (n : Managed). n.condition) went);
+        out = subst (Out (meaning (record { table = g.D.StateTable.table; status = g.D.Device.status }) c.release.new.self)) (sym c.take.ensures.after) (ap (λ (n : Managed). n.condition) went);
       };
       value = sym (course_says m x e ∙ ap (λ (o : Outcome). voiced [] (rules.release m.number m.account.gaps) o.answer quiet) own);
       after = went ∙ sym (course_leaves m x e ∙ ap (λ (o : Outcome). o.after) own);

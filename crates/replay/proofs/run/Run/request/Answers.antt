@@ -31,7 +31,7 @@ returns-in-None g c =
     record {
       ready = record {
         number = c.requires.number ∙ sym (request_number m) ∙ sym (ap (λ (n : Managed). n.number) went);
-        out = subst (Out (meaning g.D.StateTable.table g.D.Device.status c.request.new.self)) (sym c.replace.ensures.after) (waits_out _ c.in-Ok.lease c.in-Ok.ensures.waits);
+        out = subst (Out (meaning (record { table = g.D.StateTable.table; status = g.D.Device.status }) c.request.new.self)) (sym c.replace.ensures.after) (waits_out _ c.in-Ok.lease c.in-Ok.ensures.waits);
       };
       value = sym (course_says m x e ∙ ap (λ (a : Answer). voiced c.args.note.now rules.request a quiet) (sym c.in-Ok.ensures.value));
       after = went ∙ sym (course_leaves m x e);
