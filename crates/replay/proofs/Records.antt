@@ -1,8 +1,7 @@
 -- What one record says and leaves.
-use Rattle.std.proofs.Common.{◌≡◌, ℕ, true, false, eqb, List, [], ◌∷◌, Some, None, Option, sym, refl, ap, ◌∙◌, subst}
-use Rattle.std.proofs.lemmas.Bool.{cond-true, cond-false, cond_both}
-use Rattle.states.specs.Table.{Table}
-use Rattle.devices.specs.Meaning.{Status}
+use Rattle.std.proofs.Common.{◌≡◌, ℕ, true, false, eqb, List, [], ◌∷◌, Some, None, Option, sym, refl, ap, ◌∙◌, subst, arith}
+use Rattle.std.proofs.lemmas.Bool.{cond-true, cond-false, cond_both, and_parts, and_from, eq-eqb, eqb-true}
+use Rattle.devices.specs.Meaning.{Make}
 use Rattle.states.specs.Fit.{unfit_number}
 use Rattle.states.specs.declared.unfit.Unfit.{Unfit}
 use Rattle.states.specs.declared.unfit.Unfit.TheVariants as unfit
@@ -13,9 +12,10 @@ use Rattle.manager.specs.declared.refusal.Refusal.{Refusal}
 use Rattle.manager.specs.declared.refusal.Refusal.TheVariants as refusal
 use Rattle.manager.specs.Told.{unattached_number, told}
 use Rattle.manager.specs.declared.lease.Lease.{Lease}
-use Rattle.manager.specs.Meaning.{Waits}
+use Rattle.manager.specs.declared.manager.Manager.{Manager}
+use Rattle.manager.specs.Meaning.{condition_of, meaning, Waits}
 use Rattle.manager.proofs.Keeps.{SameTerms, kept}
-use Rattle.manager.specs.Rules.{Managed, Call}
+use Rattle.manager.specs.Rules.{Condition, shut, idle, busy, Managed, Call}
 use Rattle.manager.specs.Runs.{history, finally}
 use Rattle.traces.specs.Layout.{Item}
 use Rattle.manager.specs.Rules as rules
@@ -24,9 +24,9 @@ use Rattle.manager.specs.Runs.{Moment}
 use Rattle.devices.specs.Meaning.{Refused}
 use Rattle.traces.specs.Layout as layout
 use Rattle.traces.specs.Written.{Proper, Printable}
-use Rattle.replay.specs.declared.run.Run.{Run}
 use Rattle.replay.specs.Runs.{Said, jam, halt, astray, wants, calls, objection, voiced, heard, note_of, says, leaves}
-use Rattle.replay.specs.Shown.{Out, Noted, stands, Ready}
+use Rattle.replay.specs.Leased.{is_idle, is_busy, is_leased}
+use Rattle.replay.specs.Shown.{Noted}
 
 module _ (m : Managed) (x : Item) where
   -- a record that is astray
@@ -43,25 +43,42 @@ module _ (m : Managed) (x : Item) where
   pub course_leaves : astray m x ≡ false → leaves m x ≡ finally m (wants m x)
   course_leaves e = ap (finally m) (cond-false (astray m x) [] (wants m x) e)
 
--- a lease that is out is the one that the manager waits for
-pub out_waits : (m : Managed) (l : Lease) → Out m (Some l) → Waits m l.manager l.count
-out_waits m l h = record { condition = h.0; number = h.1; gaps = h.2 }
-
-pub waits_out : (m : Managed) (l : Lease) → Waits m l.manager l.count → Out m (Some l)
-waits_out m l w = (w.condition, w.number, w.gaps)
+-- a lease that is out is the one that the manager waits for, and with none out the manager is idle
+abbrev pub Out : Managed → Option Lease → Type 0
+Out m None = m.condition ≡ idle
+Out m (Some l) = Waits m l.manager l.count
 
 -- a lease that is out stays so where its terms stay
 keeps_out : (m n p : Managed) (l : Option Lease) → p ≡ n → SameTerms m n → Out m l → Out p l
 keeps_out m n p None e s h = ap (λ (x : Managed). x.condition) e ∙ s.condition ∙ h
-keeps_out m n p (Some l) e s h = subst (λ (x : Managed). Out x (Some l)) (sym e) (waits_out n l (kept m n s l.manager l.count (out_waits m l h)))
+keeps_out m n p (Some l) e s h = subst (λ (x : Managed). Out x (Some l)) (sym e) (kept m n s l.manager l.count h)
 
--- what stays ready
-pub still_ready : {D : Type 0} (table : D → Table) (status : D → Status) (r s : Run D) (n : Managed) → Ready table status r → s.number ≡ r.number → s.lease ≡ r.lease → stands table status s ≡ n → SameTerms (stands table status r) n → Ready table status s
-still_ready table status r s n h e f w same =
-    record {
-      number = e ∙ h.number ∙ sym same.number ∙ sym (ap (λ (m : Managed). m.number) w);
-      out = keeps_out (stands table status r) n (stands table status s) s.lease w same (subst (Out (stands table status r)) (sym f) h.out);
-    }
+idle_is : (c : Condition) → is_idle c ≡ true → c ≡ idle
+idle_is (shut n) h = absurd (grind arith)
+idle_is idle h = refl
+idle_is busy h = absurd (grind arith)
+
+busy_is : (c : Condition) → is_busy c ≡ true → c ≡ busy
+busy_is (shut n) h = absurd (grind arith)
+busy_is idle h = absurd (grind arith)
+busy_is busy h = refl
+
+-- the test of a run's lease is that
+module _ {D : Type 0} (make : Make D) where
+  pub out_from : (m : Manager D) (l : Option Lease) → is_leased m l ≡ true → Out (meaning make m) l
+  out_from m None h = idle_is (condition_of m.standing) h
+  out_from m (Some l) h =
+      let parts = and_parts (is_busy (condition_of m.standing)) _ h in
+      let numbers = and_parts (eqb l.manager m.number) (eqb l.count m.books.account.gaps) parts.1 in
+      record { condition = busy_is (condition_of m.standing) parts.0; number = eqb-true l.manager m.number numbers.0; gaps = eqb-true l.count m.books.account.gaps numbers.1 }
+
+  pub leased_from : (m : Manager D) (l : Option Lease) → Out (meaning make m) l → is_leased m l ≡ true
+  leased_from m None h = ap is_idle h
+  leased_from m (Some l) w = and_from (is_busy (condition_of m.standing)) _ (ap is_busy w.condition) (and_from (eqb l.manager m.number) (eqb l.count m.books.account.gaps) (eq-eqb l.manager m.number w.number) (eq-eqb l.count m.books.account.gaps w.gaps))
+
+  -- it stays so where the terms stay
+  pub still_leased : (m p : Manager D) (l : Option Lease) (n : Managed) → is_leased m l ≡ true → meaning make p ≡ n → SameTerms (meaning make m) n → is_leased p l ≡ true
+  still_leased m p l n h e same = leased_from p l (keeps_out (meaning make m) n (meaning make p) l e same (out_from m l h))
 
 -- no refusal but that of a fault is told by 31
 unfit_not_31 : (w : Unfit) → eqb (unfit_number w) 31 ≡ false

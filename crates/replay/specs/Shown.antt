@@ -1,14 +1,12 @@
 -- What the code's values say.
 use Rattle.std.specs.Prelude.{◌≡◌, ℕ, List, [], ◌++◌, Some, None, Ok, Err, Option, Result}
-use Rattle.devices.specs.Meaning.{fault_names}
-use Rattle.states.specs.Table.{Table}
-use Rattle.devices.specs.Meaning.{Status}
+use Rattle.devices.specs.Meaning.{Make, fault_names}
 use Rattle.manager.specs.Meaning.{meaning}
-use Rattle.manager.specs.declared.lease.Lease.{Lease}
-use Rattle.manager.specs.Rules.{Managed, idle, busy}
+use Rattle.manager.specs.Rules.{Managed}
 use Rattle.replay.specs.declared.said.Said as code
 use Rattle.replay.specs.declared.said.Said.TheVariants as said
 use Rattle.replay.specs.declared.said.Halt.{Halt}
+use Rattle.replay.specs.Halts.{halt_number}
 use Rattle.traces.specs.declared.event.Record.{Record}
 use Rattle.traces.specs.Layout.{item}
 use Rattle.traces.specs.Reading.{Reading, first}
@@ -26,12 +24,7 @@ spoken (said.Jam f) = jam (fault_names f)
 -- what a record's answer says
 abbrev pub told : Result code.Said Halt → Said
 told (Ok s) = spoken s
-told (Err h) = halt h.number
-
--- a lease that is out is the one that the manager waits for, and with none out the manager is idle
-abbrev pub Out : Managed → Option Lease → Type 0
-Out m None = m.condition ≡ idle
-Out m (Some l) = (m.condition ≡ busy) × (l.manager ≡ m.number) × (l.count ≡ m.account.gaps)
+told (Err h) = halt (halt_number h)
 
 -- the note of a gap can be printed
 abbrev pub Noted : Said → Type 0
@@ -41,13 +34,8 @@ Noted (jam names) = Unit {0}
 Noted (halt k) = Unit {0}
 
 -- a run's manager
-abbrev pub stands : {D : Type 0} → (D → Table) → (D → Status) → Run D → Managed
-stands table status r = meaning table status r.manager
-
--- a run bears its manager's number, and its lease is the one that is out
-pub record Ready {D : Type 0} (table : D → Table) (status : D → Status) (r : Run D) : Type 0 where
-  pub number : r.number ≡ (stands table status r).number
-  pub out : Out (stands table status r) r.lease
+abbrev pub stands : {D : Type 0} → Make D → Run D → Managed
+stands make r = meaning make r.manager
 
 -- a record that was handed out is the first that was ahead, and nothing was written; else nothing was ahead, and how the
 -- reading ends is written

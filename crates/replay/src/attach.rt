@@ -1,7 +1,6 @@
 //! From the first record of a trace to the run: the device, its limit, and attach.
 ghost use Rattle.std.specs.Prelude.{◌≡◌, ◌++◌, IfOk, Some, string_bytes, OnOk};
 ghost use Rattle.devices.specs.Rows as tables;
-ghost use Rattle.manager.specs.Rules.{attach_refusal};
 ghost use Rattle.traces.specs.Ahead.{ahead};
 ghost use Rattle.traces.specs.Layout as layout;
 ghost use Rattle.traces.specs.Written.{Proper};
@@ -9,32 +8,15 @@ ghost use Rattle.replay.specs.Lines as lines;
 ghost use Rattle.replay.specs.Runs as runs;
 ghost use Rattle.replay.specs.Shown.{Opens};
 
-use crate::lines::{push_device, push_stop};
+use crate::lines::push_stop;
 use crate::run::Run;
 use devices::{Device, LatencyLimit, TableDevice};
-use states::FitRows;
 use std::alloc::AllocError;
 use traces::event::{Event, Record};
 use traces::reader::Reader;
 
-/// The refusal of a device that is not awake.
-const NOT_AWAKE: u8 = 11;
-
 /// The place of a refused attach.
 const ATTACH_PLACE: usize = 0;
-
-/// The number that attach refuses a device with, if it does.
-fn refusal_of<D: Device>(device: &D) -> Option<u8>
-    ensures { result ≡ attach_refusal (D.StateTable.table device.now) (D.Device.status device.now) }
-{
-    if !device.settled() || device.state() != 0 {
-        return Some(NOT_AWAKE);
-    }
-    match FitRows::gather(device) {
-        Ok(_) => None,
-        Err(why) => Some(why.number()),
-    }
-}
 
 /// The next record. Where there is none, how the reading ends is written.
 fn next_or_stop<'a>(
@@ -63,15 +45,13 @@ fn attach<D: Device + Drop>(
     requires { Proper (layout.item first.event) }
     ensures { OnOk result (string_bytes out.new ≡ string_bytes out.old ++ lines.written (runs.told_of (ahead reader.old).ending (Some (record { number = number; table = D.StateTable.table device; status = D.Device.status device; next = (first.entry.offset, layout.item first.entry.event); others = (ahead reader.old).records })))) }
 {
-    match refusal_of(&device) {
-        Some(refusal) => push_stop(out, ATTACH_PLACE, refusal),
-        None => {
-            push_device(out, number)?;
-            let mut run = Run::new(number, device);
+    match Run::attach(number, device) {
+        Ok(mut run) => {
             let followed = run.follow(out, first, reader);
             run.end();
             followed
         }
+        Err(why) => push_stop(out, ATTACH_PLACE, why.number()),
     }
 }
 

@@ -36,8 +36,7 @@ fn note_word(note: &[u8]) -> &str
 pub(crate) fn push_device(out: &mut String, number: u16) -> Result<(), AllocError>
     ensures { OnOk result (string_bytes out.new ≡ string_bytes out.old ++ lines.text (lines.device number)) }
 {
-    let line = format!(in *out.allocator(); "device {number}\n")?;
-    out.push_str(line.as_str())
+    writeln!(out, "device {number}")
 }
 
 /// The line of a closed gap.
@@ -45,7 +44,6 @@ fn push_gap(out: &mut String, gap: ClosedGap, note: &[u8]) -> Result<(), AllocEr
     requires { Printable note.now }
     ensures { OnOk result (string_bytes out.new ≡ string_bytes out.old ++ lines.text (lines.gap gap.length gap.stuck gap.energy gap.floor gap.«from» gap.latency note.now)) }
 {
-    let heap = *out.allocator();
     let ClosedGap {
         length,
         energy,
@@ -56,16 +54,16 @@ fn push_gap(out: &mut String, gap: ClosedGap, note: &[u8]) -> Result<(), AllocEr
     } = gap;
     let stuck = stuck_word(stuck);
     let note = note_word(note);
-    let tail = format!(in heap; "{floor} {from} {latency} {note}\n")?;
-    let line = format!(in heap; "gap {length} {stuck} {energy} {tail}")?;
-    out.push_str(line.as_str())
+    writeln!(
+        out,
+        "gap {length} {stuck} {energy} {floor} {from} {latency} {note}"
+    )
 }
 
 /// The line of a fault that held a request up.
 fn push_jam(out: &mut String, place: usize, fault: Fault) -> Result<(), AllocError>
     ensures { OnOk result (string_bytes out.new ≡ string_bytes out.old ++ lines.text (lines.jam place (fault_names fault))) }
 {
-    let heap = *out.allocator();
     let Fault {
         number,
         code,
@@ -73,9 +71,7 @@ fn push_jam(out: &mut String, place: usize, fault: Fault) -> Result<(), AllocErr
         from,
         to,
     } = fault;
-    let tail = format!(in heap; "{depth} {from} {to}\n")?;
-    let line = format!(in heap; "jam {place} {number} {code} {tail}")?;
-    out.push_str(line.as_str())
+    writeln!(out, "jam {place} {number} {code} {depth} {from} {to}")
 }
 
 /// What a record at a place said.
@@ -94,8 +90,7 @@ pub(crate) fn push_said(out: &mut String, place: usize, said: Said<'_>) -> Resul
 pub(crate) fn push_stop(out: &mut String, place: usize, number: u8) -> Result<(), AllocError>
     ensures { OnOk result (string_bytes out.new ≡ string_bytes out.old ++ lines.written (lines.stop place number ∷ [])) }
 {
-    let line = format!(in *out.allocator(); "stop {place} {number}\n")?;
-    out.push_str(line.as_str())
+    writeln!(out, "stop {place} {number}")
 }
 
 /// The line of an account, with all its energy.
@@ -103,18 +98,15 @@ pub(crate) fn push_total(out: &mut String, account: &Account) -> Result<(), Allo
     requires { lines.energy_sum account.now < 2 ^ 64 }
     ensures { OnOk result (string_bytes out.new ≡ string_bytes out.old ++ lines.text (lines.total account.now)) }
 {
-    let heap = *out.allocator();
     let sum = account.clean + account.stuck + account.busy + account.pending;
     let (clean, floor, stuck) = (account.clean, account.floor, account.stuck);
     let (busy, pending) = (account.busy, account.pending);
-    let tail = format!(in heap; "{busy} {pending} {sum}\n")?;
-    let line = format!(in heap; "total {clean} {floor} {stuck} {tail}")?;
-    out.push_str(line.as_str())
+    writeln!(out, "total {clean} {floor} {stuck} {busy} {pending} {sum}")
 }
 
 /// The last line of a run that came to its end.
 pub(crate) fn push_end(out: &mut String) -> Result<(), AllocError>
     ensures { OnOk result (string_bytes out.new ≡ string_bytes out.old ++ lines.text lines.end) }
 {
-    out.push_str("end\n")
+    writeln!(out, "end")
 }

@@ -1,68 +1,66 @@
 //! A manager at work on the records of a trace.
-ghost use Rattle.std.specs.Prelude.{◌≡◌, ◌<◌, true, [], ◌∷◌, ◌++◌, length, IfOk, if◌then◌else◌, None, string_bytes, MatchResult, OnOk, ◌≢◌};
-ghost use Rattle.manager.specs.Rules.{attach_refusal, started};
-ghost use Rattle.traces.specs.Ahead.{ahead};
-ghost use Rattle.traces.specs.Layout as layout;
-ghost use Rattle.traces.specs.Reading.{whole};
-ghost use Rattle.traces.specs.Written.{Proper};
-ghost use Rattle.replay.specs.Lines as lines;
-ghost use Rattle.replay.specs.Runs as runs;
-ghost use Rattle.replay.specs.Shown.{told, stands, Ready};
+ghost use Rattle.std.specs.Prelude.{◌≡◌, true};
+ghost use Rattle.replay.specs.Leased.{is_leased};
 
-use crate::lines::{push_end, push_said, push_stop, push_total};
+use crate::lines::{push_device, push_end, push_said, push_stop, push_total};
 use crate::said::{Halt, Said};
 use devices::Device;
-use manager::{Lease, Manager, Refusal};
+use manager::{Lease, Manager, Refusal, Unattached};
 use std::alloc::AllocError;
 use traces::event::{Event, Record};
 use traces::reader::Reader;
 
-/// The refusal of a record for another device's number.
-const OTHER_NUMBER: u8 = 25;
-
-/// The refusal of a release with no lease out.
-const NO_LEASE: u8 = 22;
-
-/// A manager, its device's number, and the lease that is out.
+/// A manager, and the lease that is out.
 pub struct Run<D> {
-    number: u16,
     manager: Manager<D>,
     lease: Option<Lease>,
+    ghost leased: { is_leased manager lease ≡ true },
 }
 
 impl<D: Device + Drop> Run<D> {
-    /// Takes on a device that attach does not refuse.
-    pub(crate) fn new(number: u16, device: D) -> Run<D>
-        requires { attach_refusal (D.StateTable.table device) (D.Device.status device) ≡ None }
-        ensures ready { Ready D.StateTable.table D.Device.status result }
-        ensures value { stands D.StateTable.table D.Device.status result ≡ started number (D.StateTable.table device) (D.Device.status device) }
+    ghost use Rattle.std.specs.Prelude.{◌≡◌, ◌<◌, true, [], ◌∷◌, ◌++◌, length, IfOk, if◌then◌else◌, string_bytes, MatchResult, OnOk, ◌≢◌};
+    ghost use Rattle.std.specs.Result.{result_err};
+    ghost use Rattle.manager.specs.Rules.{attach_refusal, started};
+    ghost use Rattle.manager.specs.Told.{told_unattached};
+    ghost use Rattle.traces.specs.Ahead.{ahead};
+    ghost use Rattle.traces.specs.Layout as layout;
+    ghost use Rattle.traces.specs.Reading.{whole};
+    ghost use Rattle.traces.specs.Written.{Proper};
+    ghost use Rattle.replay.specs.Lines as lines;
+    ghost use Rattle.replay.specs.Runs as runs;
+    ghost use Rattle.replay.specs.Shown.{told, stands};
+    ghost use Rattle.replay.specs.declared.said.Halt.TheVariants.{OtherNumber};
+
+    /// Takes on a device, unless attach refuses it.
+    pub(crate) fn attach(number: u16, device: D) -> Result<Run<D>, Unattached>
+        ensures refusal { told_unattached (result_err result) ≡ attach_refusal (D.StateTable.table device) (D.Device.status device) }
+        ensures value { IfOk result (λ run. stands D.Device run ≡ started number (D.StateTable.table device) (D.Device.status device)) }
     {
-        Run {
-            number,
-            manager: Manager::attach(number, device),
-            lease: None,
+        let manager = Manager::attach(number, device);
+        match manager.refusal() {
+            Some(why) => Err(why),
+            None => Ok(Run {
+                manager,
+                lease: None,
+            }),
         }
     }
 
     /// Refuses another number than the device's.
     fn owns(&self, number: u16) -> Result<(), Halt>
-        ensures { MatchResult result (λ _. number ≡ self.now.number) (λ h. (number ≢ self.now.number) × (h.number ≡ 25)) }
+        ensures { MatchResult result (λ _. number ≡ (stands D.Device self.now).number) (λ why. (number ≢ (stands D.Device self.now).number) × (why ≡ OtherNumber)) }
     {
-        if number == self.number {
+        if number == self.manager.number() {
             Ok(())
         } else {
-            Err(Halt {
-                number: OTHER_NUMBER,
-            })
+            Err(Halt::OtherNumber)
         }
     }
 
     /// Ticks, until one is refused.
     fn ticks(&mut self, count: u32) -> Result<Said<'static>, Halt>
-        requires { Ready D.StateTable.table D.Device.status self.old }
-        ensures ready { Ready D.StateTable.table D.Device.status self.new }
-        ensures value { told result ≡ runs.says (stands D.StateTable.table D.Device.status self.old) (layout.ticks count) }
-        ensures after { stands D.StateTable.table D.Device.status self.new ≡ runs.leaves (stands D.StateTable.table D.Device.status self.old) (layout.ticks count) }
+        ensures value { told result ≡ runs.says (stands D.Device self.old) (layout.ticks count) }
+        ensures after { stands D.Device self.new ≡ runs.leaves (stands D.Device self.old) (layout.ticks count) }
     {
         for turn in 0..count {
             self.manager.tick()?;
@@ -72,10 +70,8 @@ impl<D: Device + Drop> Run<D> {
 
     /// A request. A fault that holds it up is told, and the run goes on.
     fn request<'a>(&mut self, number: u16, note: &'a [u8]) -> Result<Said<'a>, Halt>
-        requires { Ready D.StateTable.table D.Device.status self.old }
-        ensures ready { Ready D.StateTable.table D.Device.status self.new }
-        ensures value { told result ≡ runs.says (stands D.StateTable.table D.Device.status self.old) (layout.request number note.now) }
-        ensures after { stands D.StateTable.table D.Device.status self.new ≡ runs.leaves (stands D.StateTable.table D.Device.status self.old) (layout.request number note.now) }
+        ensures value { told result ≡ runs.says (stands D.Device self.old) (layout.request number note.now) }
+        ensures after { stands D.Device self.new ≡ runs.leaves (stands D.Device self.old) (layout.request number note.now) }
     {
         self.owns(number)?;
         match self.manager.request() {
@@ -92,14 +88,12 @@ impl<D: Device + Drop> Run<D> {
 
     /// Gives the lease back.
     fn release(&mut self, number: u16) -> Result<Said<'static>, Halt>
-        requires { Ready D.StateTable.table D.Device.status self.old }
-        ensures ready { Ready D.StateTable.table D.Device.status self.new }
-        ensures value { told result ≡ runs.says (stands D.StateTable.table D.Device.status self.old) (layout.release number) }
-        ensures after { stands D.StateTable.table D.Device.status self.new ≡ runs.leaves (stands D.StateTable.table D.Device.status self.old) (layout.release number) }
+        ensures value { told result ≡ runs.says (stands D.Device self.old) (layout.release number) }
+        ensures after { stands D.Device self.new ≡ runs.leaves (stands D.Device self.old) (layout.release number) }
     {
         self.owns(number)?;
         match self.lease.take() {
-            None => Err(Halt { number: NO_LEASE }),
+            None => Err(Halt::NoLease),
             Some(lease) => match self.manager.release(lease) {
                 Ok(()) => Ok(Said::Quiet),
                 Err(_back) => unreachable(),
@@ -109,10 +103,8 @@ impl<D: Device + Drop> Run<D> {
 
     /// Passes a fault code on.
     fn report(&mut self, number: u16, code: u32) -> Result<Said<'static>, Halt>
-        requires { Ready D.StateTable.table D.Device.status self.old }
-        ensures ready { Ready D.StateTable.table D.Device.status self.new }
-        ensures value { told result ≡ runs.says (stands D.StateTable.table D.Device.status self.old) (layout.report number code) }
-        ensures after { stands D.StateTable.table D.Device.status self.new ≡ runs.leaves (stands D.StateTable.table D.Device.status self.old) (layout.report number code) }
+        ensures value { told result ≡ runs.says (stands D.Device self.old) (layout.report number code) }
+        ensures after { stands D.Device self.new ≡ runs.leaves (stands D.Device self.old) (layout.report number code) }
     {
         self.manager.report(number, code)?;
         Ok(Said::Quiet)
@@ -120,10 +112,8 @@ impl<D: Device + Drop> Run<D> {
 
     /// Works one record.
     fn work<'a>(&mut self, event: Event<'a>) -> Result<Said<'a>, Halt>
-        requires { Ready D.StateTable.table D.Device.status self.old }
-        ensures ready { Ready D.StateTable.table D.Device.status self.new }
-        ensures value { told result ≡ runs.says (stands D.StateTable.table D.Device.status self.old) (layout.item event.entry) }
-        ensures after { stands D.StateTable.table D.Device.status self.new ≡ runs.leaves (stands D.StateTable.table D.Device.status self.old) (layout.item event.entry) }
+        ensures value { told result ≡ runs.says (stands D.Device self.old) (layout.item event.entry) }
+        ensures after { stands D.Device self.new ≡ runs.leaves (stands D.Device self.old) (layout.item event.entry) }
     {
         match event {
             Event::Ticks { count } => self.ticks(count),
@@ -136,12 +126,10 @@ impl<D: Device + Drop> Run<D> {
 
     /// Works one record and writes what it says. Answers whether the run goes on.
     fn step(&mut self, out: &mut String, next: Record<'_>) -> Result<bool, AllocError>
-        requires ready { Ready D.StateTable.table D.Device.status self.old }
-        requires proper { Proper (layout.item next.event) }
-        ensures ready { Ready D.StateTable.table D.Device.status self.new }
-        ensures goes { IfOk result (λ on. on ≡ runs.goes_on (runs.says (stands D.StateTable.table D.Device.status self.old) (layout.item next.entry.event))) }
-        ensures value { OnOk result (string_bytes out.new ≡ string_bytes out.old ++ lines.written (runs.lines_of next.entry.offset (runs.says (stands D.StateTable.table D.Device.status self.old) (layout.item next.entry.event)))) }
-        ensures after { stands D.StateTable.table D.Device.status self.new ≡ runs.leaves (stands D.StateTable.table D.Device.status self.old) (layout.item next.entry.event) }
+        requires { Proper (layout.item next.event) }
+        ensures goes { IfOk result (λ on. on ≡ runs.goes_on (runs.says (stands D.Device self.old) (layout.item next.entry.event))) }
+        ensures value { OnOk result (string_bytes out.new ≡ string_bytes out.old ++ lines.written (runs.lines_of next.entry.offset (runs.says (stands D.Device self.old) (layout.item next.entry.event)))) }
+        ensures after { stands D.Device self.new ≡ runs.leaves (stands D.Device self.old) (layout.item next.entry.event) }
     {
         let place = next.offset;
         match self.work(next.event) {
@@ -150,7 +138,7 @@ impl<D: Device + Drop> Run<D> {
                 Ok(true)
             }
             Err(halt) => {
-                push_stop(out, place, halt.number)?;
+                push_stop(out, place, halt.number())?;
                 Ok(false)
             }
         }
@@ -158,7 +146,7 @@ impl<D: Device + Drop> Run<D> {
 
     /// Writes the account and the end.
     fn close(&self, out: &mut String) -> Result<(), AllocError>
-        ensures { OnOk result (string_bytes out.new ≡ string_bytes out.old ++ lines.written (runs.closing (stands D.StateTable.table D.Device.status self.now) whole)) }
+        ensures { OnOk result (string_bytes out.new ≡ string_bytes out.old ++ lines.written (runs.closing (stands D.Device self.now) whole)) }
     {
         let account = self.manager.figures();
         push_total(out, &account)?;
@@ -167,10 +155,8 @@ impl<D: Device + Drop> Run<D> {
 
     /// Reads and works the next record, or writes how the run ends. Answers whether it goes on.
     fn advance(&mut self, out: &mut String, reader: &mut Reader<'_>) -> Result<bool, AllocError>
-        requires { Ready D.StateTable.table D.Device.status self.old }
-        ensures ready { Ready D.StateTable.table D.Device.status self.new }
         ensures moves { IfOk result (λ on. on ≡ true → length (ahead reader.new).records < length (ahead reader.old).records) }
-        ensures value { IfOk result (λ on. string_bytes out.new ++ (if on then lines.written (runs.run_on (stands D.StateTable.table D.Device.status self.new) (ahead reader.new)) else []) ≡ string_bytes out.old ++ lines.written (runs.run_on (stands D.StateTable.table D.Device.status self.old) (ahead reader.old))) }
+        ensures value { IfOk result (λ on. string_bytes out.new ++ (if on then lines.written (runs.run_on (stands D.Device self.new) (ahead reader.new)) else []) ≡ string_bytes out.old ++ lines.written (runs.run_on (stands D.Device self.old) (ahead reader.old))) }
     {
         match reader.next() {
             Ok(handed) => match handed {
@@ -187,18 +173,17 @@ impl<D: Device + Drop> Run<D> {
         }
     }
 
-    /// Works a record and all that follow it.
+    /// Writes the line of the device, and works a record and all that follow it.
     pub(crate) fn follow(
         &mut self,
         out: &mut String,
         first: Record<'_>,
         reader: &mut Reader<'_>,
     ) -> Result<(), AllocError>
-        requires ready { Ready D.StateTable.table D.Device.status self.old }
-        requires proper { Proper (layout.item first.event) }
-        ensures ready { Ready D.StateTable.table D.Device.status self.new }
-        ensures value { OnOk result (string_bytes out.new ≡ string_bytes out.old ++ lines.written (runs.run (stands D.StateTable.table D.Device.status self.old) ((first.entry.offset, layout.item first.entry.event) ∷ (ahead reader.old).records) (ahead reader.old).ending)) }
+        requires { Proper (layout.item first.event) }
+        ensures { OnOk result (string_bytes out.new ≡ string_bytes out.old ++ lines.written (lines.device (stands D.Device self.old).number ∷ runs.run (stands D.Device self.old) ((first.entry.offset, layout.item first.entry.event) ∷ (ahead reader.old).records) (ahead reader.old).ending)) }
     {
+        push_device(out, self.manager.number())?;
         if self.step(out, first)? {
             while self.advance(out, reader)? {}
         }
@@ -206,14 +191,8 @@ impl<D: Device + Drop> Run<D> {
     }
 
     /// Gives back a lease that is still out.
-    pub(crate) fn end(self)
-        requires { Ready D.StateTable.table D.Device.status self }
-    {
-        let Run {
-            number: _,
-            mut manager,
-            lease,
-        } = self;
+    pub(crate) fn end(self) {
+        let Run { mut manager, lease } = self;
         if let Some(lease) = lease {
             match manager.release(lease) {
                 Ok(()) => {}

@@ -1,12 +1,13 @@
 //! What a record says.
 ghost use Rattle.std.specs.Prelude.{◌≡◌};
-ghost use Rattle.manager.specs.Told.{told};
+ghost use Rattle.replay.specs.Halts.{halt_number};
+ghost use Rattle.replay.specs.declared.said.Halt.TheVariants.{Refused};
 
 use devices::Fault;
 use manager::{ClosedGap, Refusal};
 
 /// What a record says, if it does not end the run.
-#[derive(Clone, Copy)]
+#[derive(Clone, Copy, Debug, PartialEq, Eq)]
 pub enum Said<'a> {
     /// Nothing.
     Quiet,
@@ -16,17 +17,34 @@ pub enum Said<'a> {
     Jam(Fault),
 }
 
-/// The refusal that ends a run, by its number.
-#[derive(Clone, Copy)]
-pub struct Halt {
-    pub number: u8,
+/// Why a record ends the run.
+#[derive(Clone, Copy, Debug, PartialEq, Eq)]
+pub enum Halt {
+    /// The manager refused a call.
+    Refused(Refusal),
+    /// The record is for another device's number.
+    OtherNumber,
+    /// A release, with no lease out.
+    NoLease,
 }
 
-/// A manager's refusal ends the run by its number.
+impl Halt {
+    /// The number of the refusal.
+    pub(crate) fn number(self) -> u8
+        ensures { result ≡ halt_number self }
+    {
+        match self {
+            Halt::Refused(why) => why.number(),
+            Halt::OtherNumber => 25,
+            Halt::NoLease => 22,
+        }
+    }
+}
+
 impl From<Refusal> for Halt {
-    ghost from_gives = { λ e r. r.number ≡ (told e).number };
+    ghost from_gives = { λ e r. r ≡ Refused e };
 
     fn from(e: Refusal) -> Halt {
-        Halt { number: e.number() }
+        Halt::Refused(e)
     }
 }

@@ -14,6 +14,13 @@ use crate::refusal::Unattached;
 use devices::Device;
 
 impl<D: Device> Manager<D> {
+    /// The number that it was attached with, which its leases bear.
+    pub fn number(&self) -> u16
+        ensures { result ≡ (meaning D.Device self.now).number }
+    {
+        self.number
+    }
+
     /// Why attach was refused, if it was.
     pub fn refusal(&self) -> Option<Unattached>
         ensures { told_unattached result ≡ turned_away (meaning D.Device self.now).condition }

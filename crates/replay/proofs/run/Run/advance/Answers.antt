@@ -12,14 +12,13 @@ use Rattle.replay.proofs.run.Run.advance.Goals as goal
 
 pub returns-in-Some : goal.returns-in-Some
 returns-in-Some g c =
-    let m = stands g.D.StateTable.table g.D.Device.status c.args.self.now in
-    let n = stands g.D.StateTable.table g.D.Device.status c.step.new.self in
+    let m = stands (record { table = g.D.StateTable.table; status = g.D.Device.status }) c.args.self.now in
+    let n = stands (record { table = g.D.StateTable.table; status = g.D.Device.status }) c.step.new.self in
     let x : ℕ × Item = (c.in-Some.next.offset, item c.in-Some.next.event) in
     let rest = ahead c.next.new.self in
     let is = rw c.in-Some.is at c.in-Ok.ensures.value in
     let moves = rw c.in-Some.is at c.in-Ok.ensures.moves in
     record {
-      ready = c.step.ensures.ready;
       moves = IfOk-weaker c.step.result _ _ (λ on _ _. moves) c.step.ensures.goes;
       value =
           made_both c.step.result _ _ _
@@ -30,20 +29,18 @@ returns-in-Some g c =
 
 pub returns-in_ok-close-in-None : goal.returns-in_ok-close-in-None
 returns-in_ok-close-in-None g c =
-    let m = stands g.D.StateTable.table g.D.Device.status c.args.self.now in
+    let m = stands (record { table = g.D.StateTable.table; status = g.D.Device.status }) c.args.self.now in
     let is = rw c.in-None.is at c.in-Ok.ensures.value in
     record {
-      ready = c.requires;
       moves = λ e. let z : ◌≡◌ {A = ℕ} 0 1 = cc in absurd (omega arith);
       value = end_text m (ahead c.args.reader.now) whole (string_bytes c.args.out.now) (string_bytes c.close.new.out) [] is c.in_ok-close-in-None.ensures;
     }
 
 pub returns-in_ok-push_stop-in-Err : goal.returns-in_ok-push_stop-in-Err
 returns-in_ok-push_stop-in-Err g c =
-    let m = stands g.D.StateTable.table g.D.Device.status c.args.self.now in
+    let m = stands (record { table = g.D.StateTable.table; status = g.D.Device.status }) c.args.self.now in
     let before = string_bytes c.args.out.now in
     record {
-      ready = c.requires;
       moves = λ e. let z : ◌≡◌ {A = ℕ} 0 1 = cc in absurd (omega arith);
       value = end_text m (ahead c.args.reader.now) (stop c.in-Err.refusal) (string_bytes c.args.out.now) (string_bytes c.push_stop.new.out) [] c.in-Err.ensures.value (c.in_ok-push_stop-in-Err.ensures ∙ ap (λ (k : ℕ). before ++ written (lines.stop c.in-Err.refusal.place k ∷ [])) c.number.ensures);
     }

@@ -11,7 +11,7 @@ shown_is a b e = cc
 
 pub returns : goal.returns
 returns g c =
-    let a = (stands g.D.StateTable.table g.D.Device.status c.args.self.now).account in
+    let a = (stands (record { table = g.D.StateTable.table; status = g.D.Device.status }) c.args.self.now).account in
     let e = shown_is c.figures-account.result a c.figures-account.ensures.value in
     let before = string_bytes c.args.out.now in
     IfOk-weaker c.push_end.result _ _

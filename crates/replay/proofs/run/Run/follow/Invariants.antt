@@ -2,15 +2,14 @@ use Rattle.std.proofs.Common.{◌≡◌, ◌++◌, length, string_bytes}
 use Rattle.traces.specs.Ahead.{ahead}
 use Rattle.replay.specs.Lines.{written}
 use Rattle.replay.specs.Runs.{run_on}
-use Rattle.replay.specs.Shown.{stands, Ready}
+use Rattle.replay.specs.Shown.{stands}
 use Rattle.replay.proofs.run.Run.follow.Given as goal
 
 -- the text so far and what is left make the whole
 abbrev pub invariant-loop : goal.invariant-loop
 invariant-loop g l =
-    Ready g.D.StateTable.table g.D.Device.status l.self
-    × (string_bytes l.out ++ written (run_on (stands g.D.StateTable.table g.D.Device.status l.self) (ahead l.reader))
-    ≡ string_bytes l.initial.out ++ written (run_on (stands g.D.StateTable.table g.D.Device.status l.initial.self) (ahead l.initial.reader)))
+    string_bytes l.out ++ written (run_on (stands (record { table = g.D.StateTable.table; status = g.D.Device.status }) l.self) (ahead l.reader))
+    ≡ string_bytes l.initial.out ++ written (run_on (stands (record { table = g.D.StateTable.table; status = g.D.Device.status }) l.initial.self) (ahead l.initial.reader))
 
 abbrev pub decreases-loop : goal.decreases-loop
 decreases-loop g l = length (ahead l.reader).records

@@ -6,5 +6,5 @@ use Rattle.replay.proofs.run.Run.step.Goals as goal
 
 pub push_said-requires : goal.push_said-requires
 push_said-requires g c =
-    let m = stands g.D.StateTable.table g.D.Device.status c.args.self.now in
-    subst Noted (sym c.in-Ok.ensures.value) (says_noted m (item c.args.next.event) c.requires.proper)
+    let m = stands (record { table = g.D.StateTable.table; status = g.D.Device.status }) c.args.self.now in
+    subst Noted (sym c.in-Ok.ensures.value) (says_noted m (item c.args.next.event) c.requires)
