@@ -1,11 +1,11 @@
 //! One record, from the bytes where it starts.
-ghost use Rattle.std.specs.Prelude.{◌≡◌, ◌≤◌, length, IfOk};
+ghost use Rattle.std.specs.Prelude.{◌≡◌, ◌+◌, ◌≤◌, length, IfOk};
 ghost use Rattle.std.specs.Option.{option_map};
-ghost use Rattle.traces.specs.Layout.{content, item, printable, read_one, shown};
+ghost use Rattle.traces.specs.Layout.{content, item, printable, read_body, read_one, shown};
 ghost use Rattle.traces.specs.declared.order.Kind.TheVariants as kind;
 
 use crate::event::{Event, Fault};
-use crate::order::{Kind, Stage, kind_of, next_stage};
+use crate::order::{Kind, Stage};
 
 /// A table has 1 to this many rows.
 const MAX_ROWS: u8 = 16;
@@ -25,14 +25,14 @@ const LAST_PRINTABLE: u8 = 126;
 /// The most ticks in one record.
 const MAX_TICKS: u32 = 1_000_000;
 
-/// The bytes of a length.
-const LENGTH_LEN: usize = 2;
+/// The bytes of a length and a kind.
+const HEAD_LEN: usize = 4;
 
 /// The bytes of a kind, which the length counts.
 const KIND_LEN: usize = 2;
 
 /// A record that was read: what it says, how many bytes it takes, and the stage after it.
-#[derive(Drop)]
+#[derive(Clone, Copy, Debug, PartialEq, Eq)]
 pub struct Taken<'a> {
     pub event: Event<'a>,
     pub size: usize,
@@ -79,12 +79,8 @@ fn ticks(body: &[u8]) -> Option<Event<'_>>
 fn is_printable(note: &[u8]) -> bool
     ensures { result ≡ printable note.now }
 {
-    for b in note {
-        if *b < FIRST_PRINTABLE || *b > LAST_PRINTABLE {
-            return false;
-        }
-    }
-    true
+    note.iter()
+        .all(|b| (FIRST_PRINTABLE..=LAST_PRINTABLE).contains(b))
 }
 
 fn request(body: &[u8]) -> Option<Event<'_>>
@@ -145,6 +141,21 @@ fn event_of(kind: Kind, body: &[u8]) -> Option<Event<'_>>
     }
 }
 
+/// The record of the kind numbered `code` and with this body.
+fn read_body(stage: Stage, code: u16, body: &[u8]) -> Result<Taken<'_>, Fault>
+    ensures value { shown result ≡ read_body stage code body.now }
+    ensures size { IfOk result (λ t. t.size ≡ 4 + length body.now) }
+{
+    let kind = Kind::try_from(code)?;
+    let stage = stage.after(kind).ok_or(Fault::OutOfOrder)?;
+    let event = event_of(kind, body).ok_or(Fault::Malformed)?;
+    Ok(Taken {
+        event,
+        size: HEAD_LEN + body.len(),
+        stage,
+    })
+}
+
 /// The record at the front of `bytes`.
 pub(crate) fn read_one(stage: Stage, bytes: &[u8]) -> Result<Taken<'_>, Fault>
     ensures value { shown result ≡ read_one stage bytes.now }
@@ -154,25 +165,7 @@ pub(crate) fn read_one(stage: Stage, bytes: &[u8]) -> Result<Taken<'_>, Fault>
         return Err(Fault::Cut);
     };
     let length = usize::from(u16::from_le_bytes([*l0, *l1]));
-    if rest.len() + KIND_LEN < length {
-        return Err(Fault::Cut);
-    }
-    if length < KIND_LEN {
-        return Err(Fault::Malformed);
-    }
-    let Some(kind) = kind_of(u16::from_le_bytes([*k0, *k1])) else {
-        return Err(Fault::UnknownKind);
-    };
-    let Some(after) = next_stage(stage, kind) else {
-        return Err(Fault::OutOfOrder);
-    };
-    let (body, _) = rest.split_at(length - KIND_LEN);
-    let Some(event) = event_of(kind, body) else {
-        return Err(Fault::Malformed);
-    };
-    Ok(Taken {
-        event,
-        size: LENGTH_LEN + length,
-        stage: after,
-    })
+    let body_len = length.checked_sub(KIND_LEN).ok_or(Fault::Malformed)?;
+    let body = rest.get(..body_len).ok_or(Fault::Cut)?;
+    read_body(stage, u16::from_le_bytes([*k0, *k1]), body)
 }
