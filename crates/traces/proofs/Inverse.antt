@@ -1,8 +1,8 @@
 -- Writing a trace and reading it are inverse.
-use Rattle.std.proofs.Common.{◌≡◌, ℕ, ◌+◌, ◌-◌, ◌*◌, ◌/◌, ◌%◌, ◌^◌, ◌<◌, ◌≤◌, Bool, true, false, cond, ◌&&◌, eqb, ltb, leb, List, [], ◌∷◌, ◌++◌, length, get_or, take, drop, Some, Ok, Option, sym, refl, ap, ◌∙◌, subst, arith, length-append, length-drop}
+use Rattle.std.proofs.Common.{◌≡◌, ℕ, ◌+◌, ◌-◌, ◌*◌, ◌/◌, ◌%◌, ◌^◌, ◌<◌, ◌≤◌, Bool, true, false, cond, ◌&&◌, eqb, ltb, leb, List, [], ◌∷◌, ◌++◌, length, get_or, take, drop, Some, Ok, Option, sym, refl, ap, ◌∙◌, subst, arith, w8, Fits, length-append, length-drop}
 use Rattle.std.specs.Option.{ok_or}
 use Rattle.std.specs.List.{AllByRecursion}
-use Rattle.std.proofs.ByRecursion.{All-take, All-drop}
+use Rattle.std.proofs.ByRecursion.{All-take, All-drop, All-from_get_or}
 use Rattle.std.proofs.lemmas.List.{take_at, drop_at, drop-drop, length-take-le, take-append-drop}
 use Rattle.std.proofs.lemmas.Bool.{cond-true, cond-false, cond_both, le-ltb, le-leb, eq-eqb, leb-true, eqb-true, and_from, and_parts, ltb-false}
 use Rattle.traces.specs.declared.order.Kind.{Kind}
@@ -103,6 +103,10 @@ proper kind.Request bs x e =
 proper kind.Release bs x e = subst Proper (if_some _ _ x e).1 tt
 proper kind.Report bs x e = subst Proper (if_some _ _ x e).1 tt
 proper kind.End bs x e = subst Proper (if_some _ _ x e).1 tt
+
+-- a record that is read keeps its bounds
+pub read_proper : (st next : Stage) (bs : List ℕ) (x : Item) (n : ℕ) → read_one st bs ≡ Ok (record { says = x; size = n; stage = next }) → Proper x
+read_proper st next bs x n e = let f = came st bs _ e in proper f.kind _ _ f.right
 
 -- an item that was read of a body is written as that body
 record Again (k : Kind) (bs : List ℕ) (x : Item) : Type 0 where
@@ -269,11 +273,11 @@ from_whole =
     closed Ended n [] done e = record { proper = tt; fitting = tt; order = refl; bytes = refl }
     closed Ended n (b ∷ bs) done e = let z : ◌≡◌ {A = ℕ} 0 1 = cc in absurd (omega arith)
 
-pub only_written : (bs : List ℕ) → Bytes bs → OnlyWritten bs
+pub only_written : (bs : List ℕ) → ((i : ℕ) → Fits w8 (get_or bs i 0)) → OnlyWritten bs
 unfolding reading
-only_written bs h =
+only_written bs fits =
     cond_both (ltb 65536 (length bs)) _ _ (λ (r : Reading). r.ending ≡ whole → Sound (items r) × (bs ≡ written (items r)))
     (λ _ e. let z : ◌≡◌ {A = ℕ} 0 1 = cc in absurd (omega arith))
     (λ short e.
-    let f = from_whole Start 0 bs h e in
+    let f = from_whole Start 0 bs (All-from_get_or _ bs 0 (λ i _. omega (arith, fits i))) e in
     (record { proper = f.proper; fitting = f.fitting; order = in_words _ f.order; short = omega (arith, ap length f.bytes, ltb-false 65536 (length bs) short) }, f.bytes))
