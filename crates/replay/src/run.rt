@@ -1,7 +1,6 @@
 //! A manager at work on the records of a trace.
 ghost use Rattle.std.specs.Prelude.{◌≡◌, ◌<◌, true, [], ◌∷◌, ◌++◌, length, IfOk, if◌then◌else◌, None, string_bytes, MatchResult, OnOk, ◌≢◌};
 ghost use Rattle.manager.specs.Rules.{attach_refusal, started};
-ghost use Rattle.traces.specs.Ahead.{ahead};
 ghost use Rattle.traces.specs.Layout as layout;
 ghost use Rattle.traces.specs.Reading.{whole};
 ghost use Rattle.traces.specs.Written.{Proper};
@@ -169,8 +168,8 @@ impl<D: Device + Drop> Run<D> {
     fn advance(&mut self, out: &mut String, reader: &mut Reader<'_>) -> Result<bool, AllocError>
         requires { Ready D.StateTable.table D.Device.status self.old }
         ensures ready { Ready D.StateTable.table D.Device.status self.new }
-        ensures moves { IfOk result (λ on. on ≡ true → length (ahead reader.new).records < length (ahead reader.old).records) }
-        ensures value { IfOk result (λ on. string_bytes out.new ++ (if on then lines.written (runs.run_on (stands D.StateTable.table D.Device.status self.new) (ahead reader.new)) else []) ≡ string_bytes out.old ++ lines.written (runs.run_on (stands D.StateTable.table D.Device.status self.old) (ahead reader.old))) }
+        ensures moves { IfOk result (λ on. on ≡ true → length reader.new.records < length reader.old.records) }
+        ensures value { IfOk result (λ on. string_bytes out.new ++ (if on then lines.written (runs.run_on (stands D.StateTable.table D.Device.status self.new) reader.new) else []) ≡ string_bytes out.old ++ lines.written (runs.run_on (stands D.StateTable.table D.Device.status self.old) reader.old)) }
     {
         match reader.next() {
             Ok(handed) => match handed {
@@ -197,7 +196,7 @@ impl<D: Device + Drop> Run<D> {
         requires ready { Ready D.StateTable.table D.Device.status self.old }
         requires proper { Proper (layout.item first.event) }
         ensures ready { Ready D.StateTable.table D.Device.status self.new }
-        ensures value { OnOk result (string_bytes out.new ≡ string_bytes out.old ++ lines.written (runs.run (stands D.StateTable.table D.Device.status self.old) ((first.entry.offset, layout.item first.entry.event) ∷ (ahead reader.old).records) (ahead reader.old).ending)) }
+        ensures value { OnOk result (string_bytes out.new ≡ string_bytes out.old ++ lines.written (runs.run (stands D.StateTable.table D.Device.status self.old) ((first.entry.offset, layout.item first.entry.event) ∷ reader.old.records) reader.old.ending)) }
     {
         if self.step(out, first)? {
             while self.advance(out, reader)? {}

@@ -1,7 +1,6 @@
 use Rattle.std.proofs.Common.{ℕ, List, ◌++◌, string_bytes, Option, ap, ◌∙◌, append_assoc}
 use Rattle.std.proofs.lemmas.Result.{IfOk-weaker}
 use Rattle.manager.specs.Rules.{Managed}
-use Rattle.traces.specs.Ahead.{ahead}
 use Rattle.traces.specs.Layout.{item}
 use Rattle.replay.specs.Lines.{device, text, written}
 use Rattle.replay.specs.Runs.{Opening, run, course, attached}
@@ -10,8 +9,8 @@ use Rattle.replay.proofs.attach.attach.Goals as goal
 
 pub returns-in_ok-push_device-in-None : goal.returns-in_ok-push_device-in-None
 returns-in_ok-push_device-in-None g c =
-    let o : Opening = record { number = c.args.number; table = g.D.StateTable.table c.args.device; status = g.D.Device.status c.args.device; next = (c.args.first.offset, item c.args.first.event); others = (ahead c.args.reader.now).records } in
-    let e = (ahead c.args.reader.now).ending in
+    let o : Opening = record { number = c.args.number; table = g.D.StateTable.table c.args.device; status = g.D.Device.status c.args.device; next = (c.args.first.offset, item c.args.first.event); others = c.args.reader.now.records } in
+    let e = c.args.reader.now.ending in
     let before = string_bytes c.args.out.now in
     let m = stands g.D.StateTable.table g.D.Device.status c.new-run.result in
     let head = text (device c.args.number) in

@@ -1,5 +1,4 @@
 use Rattle.std.proofs.Common.{ℕ, Bool, true, false, cond, [], ◌++◌, string_bytes, sym, ap, ◌∙◌, append-nil}
-use Rattle.traces.specs.Ahead.{ahead}
 use Rattle.traces.specs.Layout.{Item, item}
 use Rattle.replay.specs.Lines.{written}
 use Rattle.replay.specs.Runs.{run_on}
@@ -18,9 +17,9 @@ returns-else-branch-2 g c =
       ready = c.in_ok-advance.ensures.ready;
       value =
           sym (append-nil (string_bytes c.advance.new.out))
-          ∙ ap (λ (on : Bool). string_bytes c.advance.new.out ++ cond on (written (run_on (stands g.D.StateTable.table g.D.Device.status c.advance.new.self) (ahead c.advance.new.reader))) []) (sym c.if-branch-2.false)
+          ∙ ap (λ (on : Bool). string_bytes c.advance.new.out ++ cond on (written (run_on (stands g.D.StateTable.table g.D.Device.status c.advance.new.self) c.advance.new.reader)) []) (sym c.if-branch-2.false)
           ∙ all ∙ c.loop.invariant.1
-          ∙ step_text m n x (ahead c.args.reader.now) true (string_bytes c.args.out.now) (string_bytes c.step.new.out) one.after (sym c.if-branch.true ∙ one.goes) one.value;
+          ∙ step_text m n x c.args.reader.now true (string_bytes c.args.out.now) (string_bytes c.step.new.out) one.after (sym c.if-branch.true ∙ one.goes) one.value;
     }
 
 pub returns-else-branch : goal.returns-else-branch
@@ -33,5 +32,5 @@ returns-else-branch g c =
       ready = one.ready;
       value =
           sym (append-nil (string_bytes c.step.new.out))
-          ∙ step_text m n x (ahead c.args.reader.now) false (string_bytes c.args.out.now) (string_bytes c.step.new.out) one.after (sym c.if-branch.false ∙ one.goes) one.value;
+          ∙ step_text m n x c.args.reader.now false (string_bytes c.args.out.now) (string_bytes c.step.new.out) one.after (sym c.if-branch.false ∙ one.goes) one.value;
     }
