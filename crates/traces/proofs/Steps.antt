@@ -34,7 +34,7 @@ pub record Came (st : Stage) (bs : List ℕ) (t : Step) : Type 0 where
 
 -- a test that was passed, and what went on behind it
 passed : {A B : Type 0} (o : Option A) (e : ℕ) (f : A → Result B ℕ) (t : B) → (ok_or o e then f) ≡ Ok t → (a : A) × (o ≡ Some a) × (f a ≡ Ok t)
-passed None e f t h = let z : ◌≡◌ {A = ℕ} 0 1 = cc in absurd (omega arith)
+passed None e f t h = absurd cc
 passed (Some a) e f t h = (a, refl, h)
 
 pub came : (st : Stage) (bs : List ℕ) (t : Step) → read_one st bs ≡ Ok t → Came st bs t
@@ -47,7 +47,7 @@ came st bs t =
     P o = o ≡ Ok t → Came st bs t
 
     clash : {e : ℕ} → P (Err e)
-    clash h = let z : ◌≡◌ {A = ℕ} 0 1 = cc in absurd (omega arith)
+    clash h = absurd cc
 
     go : 4 ≤ length bs → 2 + two bs 0 ≤ length bs → 2 ≤ two bs 0 → P (read_body st (two bs 2) (take (two bs 0 - 2) (drop 4 bs)))
     go long fits some h =
