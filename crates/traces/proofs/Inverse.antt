@@ -1,21 +1,20 @@
 -- Writing a trace and reading it are inverse.
-use Rattle.std.proofs.Common.{◌≡◌, ℕ, zero, suc, ◌+◌, ◌-◌, ◌*◌, ◌/◌, ◌%◌, ◌^◌, ◌<◌, ◌≤◌, Bool, true, false, cond, ◌&&◌, eqb, ltb, leb, List, [], ◌∷◌, ◌++◌, length, get_or, take, drop, Some, Ok, Option, sym, refl, ap, ◌∙◌, subst, arith, w8, Fits, length-append, length-drop}
-use Rattle.std.specs.Option.{ok_or}
+use Rattle.std.proofs.Common.{◌≡◌, ℕ, zero, suc, ◌+◌, ◌-◌, ◌/◌, ◌%◌, ◌^◌, ◌<◌, ◌≤◌, Bool, true, false, cond, eqb, ltb, List, [], ◌∷◌, ◌++◌, length, get_or, take, drop, Some, Ok, Option, sym, refl, ap, ◌∙◌, subst, arith, w8, Fits, length-append, length-drop}
 use Rattle.std.specs.List.{AllByRecursion}
 use Rattle.std.proofs.ByRecursion.{All-take, All-drop, All-from_get_or}
 use Rattle.std.proofs.lemmas.List.{drop_all, drop_more, nil_from_length, take_at, drop_at, drop-drop, length-take-le, take-append-drop}
 use Rattle.std.proofs.lemmas.Bool.Decides.{nat_tests}
 use Rattle.std.proofs.lemmas.Option.{cond_some}
-use Rattle.std.proofs.lemmas.Bool.{cond-true, cond-false, cond_both, le-ltb, le-leb, eq-eqb, leb-true, eqb-true, and_from, and_parts, ltb-false}
+use Rattle.std.proofs.lemmas.Bool.{cond-false, cond_both, le-ltb, eqb-true, ltb-false}
 use Rattle.traces.specs.declared.order.Kind.{Kind}
 use Rattle.traces.specs.declared.order.Kind.TheVariants as kind
 use Rattle.traces.specs.declared.order.Stage.{Stage}
 use Rattle.traces.specs.declared.order.Stage.TheVariants.{Start, Opened, Running, Ended}
-use Rattle.traces.specs.Layout.{Item, table, limit, ticks, request, release, report, end, Step, printable, two, four, if, content, kind_of, follows, read_one, ◌then◌}
-use Rattle.traces.specs.Reading.{Reading, whole, first, ended, closing, remaining, reading}
+use Rattle.traces.specs.Layout.{Item, table, limit, ticks, request, release, report, end, Step, printable, two, four, if, content, kind_of, follows, read_body, read_one}
+use Rattle.traces.specs.Reading.{Reading, whole, first, ended, closing, after, remaining, reading}
 use Rattle.traces.specs.Written.{le2, le4, kind_for, code_of, body_of, encoded, written, placed, Bytes, Printable, Proper, Fitting, Sound, items, ReadsBack, OnlyWritten}
 use Rattle.traces.proofs.Stages.{Orderly, by_stages, in_words}
-use Rattle.traces.proofs.Steps.{Came, came, decided, induct, record_at, whole_at_end}
+use Rattle.traces.proofs.Steps.{Came, came, induct, remaining_step}
 
 -- numbers come out of their bytes
 two_le2 : (n : ℕ) (rest : List ℕ) → two (le2 n ++ rest) 0 ≡ n
@@ -30,16 +29,22 @@ byte [] i h = omega arith
 byte (b ∷ bs) zero h = h.0
 byte (b ∷ bs) (suc i) h = byte bs i h.1
 
+two_fits : (bs : List ℕ) (i : ℕ) → Bytes bs → two bs i < 2 ^ 16
+two_fits bs i h = omega (arith, byte bs i h, byte bs (i + 1) h)
+
 two_again : (bs : List ℕ) (i : ℕ) → Bytes bs → i + 2 ≤ length bs → le2 (two bs i) ++ drop (i + 2) bs ≡ drop i bs
 two_again bs i h long =
     let low : two bs i % 256 ≡ get_or bs i 0 = omega (arith, byte bs i h) in
     let high : two bs i / 256 ≡ get_or bs (i + 1) 0 = omega (arith, byte bs i h) in
     grind (arith, drop_more)
 
+four_fits : (bs : List ℕ) (i : ℕ) → Bytes bs → four bs i < 2 ^ 32
+four_fits bs i h = omega (arith, two_fits bs i h, two_fits bs (i + 2) h)
+
 four_again : (bs : List ℕ) (i : ℕ) → Bytes bs → length bs ≡ i + 4 → le4 (four bs i) ≡ drop i bs
 four_again bs i h long =
-    let low : four bs i % 65536 ≡ two bs i = omega (arith, byte bs i h, byte bs (i + 1) h) in
-    let high : four bs i / 65536 ≡ two bs (i + 2) = omega (arith, byte bs i h, byte bs (i + 1) h) in
+    let low : four bs i % 65536 ≡ two bs i = omega (arith, two_fits bs i h) in
+    let high : four bs i / 65536 ≡ two bs (i + 2) = omega (arith, two_fits bs i h) in
     grind (arith, two_again bs i h, two_again bs (i + 2) h, drop_all (i + 2 + 2) bs)
 
 -- a note's test
@@ -61,15 +66,19 @@ said (release n) h = grind (arith, nat_tests, two_le2)
 said (report n c) h = grind (arith, nat_tests, two_le2, four_le4)
 said end h = refl
 
+-- what holds of an item where its test holds, holds of what was read
+from_if : (P : Item → Type 0) {b : Bool} {y x : Item} → if b y ≡ Some x → (b ≡ true → P y) → P x
+from_if P e holds = let (t, is) = cond_some _ _ _ e in subst P is (holds t)
+
 -- what is read of a body may be said
 pub proper : (k : Kind) (bs : List ℕ) (x : Item) → content k bs ≡ Some x → Proper x
-proper kind.Table bs x e = let (t, y) = cond_some _ _ _ e in subst Proper y (get_or bs 2 0, grind (arith, nat_tests), grind (arith, nat_tests), grind (arith, nat_tests, length-drop))
-proper kind.Limit bs x e = subst Proper (cond_some _ _ _ e).1 tt
-proper kind.Ticks bs x e = let (t, y) = cond_some _ _ _ e in subst Proper y (grind (arith, nat_tests))
-proper kind.Request bs x e = let (t, y) = cond_some _ _ _ e in subst Proper y (grind (arith, nat_tests, length-drop), printable_all (drop 2 bs) (grind (arith, nat_tests)))
-proper kind.Release bs x e = subst Proper (cond_some _ _ _ e).1 tt
-proper kind.Report bs x e = subst Proper (cond_some _ _ _ e).1 tt
-proper kind.End bs x e = subst Proper (cond_some _ _ _ e).1 tt
+proper kind.Table bs x e = from_if Proper e (λ t. (get_or bs 2 0, grind (arith, nat_tests), grind (arith, nat_tests), grind (arith, nat_tests, length-drop)))
+proper kind.Limit bs x e = from_if Proper e (λ t. tt)
+proper kind.Ticks bs x e = from_if Proper e (λ t. grind (arith, nat_tests))
+proper kind.Request bs x e = from_if Proper e (λ t. (grind (arith, nat_tests, length-drop), printable_all (drop 2 bs) (grind (arith, nat_tests))))
+proper kind.Release bs x e = from_if Proper e (λ t. tt)
+proper kind.Report bs x e = from_if Proper e (λ t. tt)
+proper kind.End bs x e = from_if Proper e (λ t. tt)
 
 -- a record that is read keeps its bounds
 pub read_proper : (st next : Stage) (bs : List ℕ) (x : Item) (n : ℕ) → read_one st bs ≡ Ok (record { says = x; size = n; stage = next }) → Proper x
@@ -82,43 +91,24 @@ record Again (k : Kind) (bs : List ℕ) (x : Item) : Type 0 where
   body : body_of x ≡ bs
 
 again : (k : Kind) (bs : List ℕ) (x : Item) → Bytes bs → content k bs ≡ Some x → Again k bs x
-again k bs x h e = go k e
-  where
-    fit : (i : ℕ) → get_or bs i 0 < 256
-    fit i = byte bs i h
-
-    go : (k : Kind) → content k bs ≡ Some x → Again k bs x
-    go kind.Table e =
-        let (t, y) = cond_some _ _ _ e in
-        subst (Again kind.Table bs) y (record {
-          fitting = (omega (arith, fit 0, fit 1), All-drop _ 3 bs h);
-          kind = refl;
-          body = grind (arith, nat_tests, length-drop 3 bs, drop_more bs 2 0, two_again bs 0 h);
-        })
-    go kind.Limit e =
-        let (t, y) = cond_some _ _ _ e in
-        subst (Again kind.Limit bs) y (record { fitting = omega (arith, fit 0, fit 1, fit 2, fit 3); kind = refl; body = four_again bs 0 h (grind (arith, nat_tests)) })
-    go kind.Ticks e =
-        let (t, y) = cond_some _ _ _ e in
-        subst (Again kind.Ticks bs) y (record { fitting = tt; kind = refl; body = four_again bs 0 h (grind (arith, nat_tests)) })
-    go kind.Request e =
-        let (t, y) = cond_some _ _ _ e in
-        subst (Again kind.Request bs) y (record { fitting = omega (arith, fit 0, fit 1); kind = refl; body = two_again bs 0 h (grind (arith, nat_tests)) })
-    go kind.Release e =
-        let (t, y) = cond_some _ _ _ e in
-        let n : length bs ≡ 2 = grind (arith, nat_tests) in
-        subst (Again kind.Release bs) y (record { fitting = omega (arith, fit 0, fit 1); kind = refl; body = rw (drop_all 2 bs (omega arith)) at (two_again bs 0 h (omega arith)) })
-    go kind.Report e =
-        let (t, y) = cond_some _ _ _ e in
-        let n : length bs ≡ 6 = grind (arith, nat_tests) in
-        subst (Again kind.Report bs) y (record {
-          fitting = (omega (arith, fit 0, fit 1), omega (arith, fit 2, fit 3, fit 4, fit 5));
-          kind = refl;
-          body = grind (arith, two_again bs 0 h, four_again bs 2 h);
-        })
-    go kind.End e =
-        let (t, y) = cond_some _ _ _ e in
-        subst (Again kind.End bs) y (record { fitting = tt; kind = refl; body = sym (nil_from_length bs (grind (arith, nat_tests))) })
+again kind.Table bs x h e =
+    from_if (Again kind.Table bs) e (λ t. record {
+      fitting = (two_fits bs 0 h, All-drop _ 3 bs h);
+      kind = refl;
+      body = grind (arith, nat_tests, length-drop 3 bs, drop_more bs 2 0, two_again bs 0 h);
+    })
+again kind.Limit bs x h e = from_if (Again kind.Limit bs) e (λ t. record { fitting = four_fits bs 0 h; kind = refl; body = four_again bs 0 h (grind (arith, nat_tests)) })
+again kind.Ticks bs x h e = from_if (Again kind.Ticks bs) e (λ t. record { fitting = tt; kind = refl; body = four_again bs 0 h (grind (arith, nat_tests)) })
+again kind.Request bs x h e = from_if (Again kind.Request bs) e (λ t. record { fitting = two_fits bs 0 h; kind = refl; body = two_again bs 0 h (grind (arith, nat_tests)) })
+again kind.Release bs x h e =
+    from_if (Again kind.Release bs) e (λ t.
+    let n : length bs ≡ 2 = grind (arith, nat_tests) in
+    record { fitting = two_fits bs 0 h; kind = refl; body = rw (drop_all 2 bs (omega arith)) at (two_again bs 0 h (omega arith)) })
+again kind.Report bs x h e =
+    from_if (Again kind.Report bs) e (λ t.
+    let n : length bs ≡ 6 = grind (arith, nat_tests) in
+    record { fitting = (two_fits bs 0 h, four_fits bs 2 h); kind = refl; body = grind (arith, two_again bs 0 h, four_again bs 2 h) })
+again kind.End bs x h e = from_if (Again kind.End bs) e (λ t. record { fitting = tt; kind = refl; body = sym (nil_from_length bs (grind (arith, nat_tests))) })
 
 known : (k : Kind) → kind_of (code_of k) ≡ Some k
 known kind.Table = refl
@@ -129,17 +119,24 @@ known kind.Release = refl
 known kind.Report = refl
 known kind.End = refl
 
+-- past the tests on the length, the content decides
+body_back : (st next : Stage) (k : Kind) (body : List ℕ) (x : Item) → follows st k ≡ Some next → content k body ≡ Some x →
+    read_body st (code_of k) body ≡ Ok (record { says = x; size = 4 + length body; stage = next })
+body_back st next k body x order right = rw (known k, order, right)
+
 -- a record that is written is read, whatever follows it
 record_back : (x : Item) (st next : Stage) (rest : List ℕ) → Proper x → follows st (kind_for x) ≡ Some next →
     read_one st (encoded x ++ rest) ≡ Ok (record { says = x; size = length (encoded x); stage = next })
 record_back x st next rest may order =
-    let bs = encoded x ++ rest in
-    let n : two bs 0 ≡ 2 + length (body_of x) = two_le2 (2 + length (body_of x)) (le2 (code_of (kind_for x)) ++ (body_of x ++ rest)) in
+    let bs : List ℕ = encoded x ++ rest in
+    let size : two bs 0 ≡ 2 + length (body_of x) = two_le2 (2 + length (body_of x)) (le2 (code_of (kind_for x)) ++ (body_of x ++ rest)) in
     let code : two bs 2 ≡ code_of (kind_for x) = omega arith in
     let long : length bs ≡ 4 + (length (body_of x) + length rest) = omega (arith, length-append (body_of x) rest) in
     let body : take (two bs 0 - 2) (drop 4 bs) ≡ body_of x = take_at (body_of x) rest (two bs 0 - 2) (omega arith) in
-    decided st next (kind_for x) bs (omega arith) (omega arith) (omega arith) (ap kind_of code ∙ known (kind_for x)) order
-    ∙ ap (λ o. ok_or o 3 then λ y. Ok (record { says = y; size = 2 + two bs 0; stage = next })) (ap (content (kind_for x)) body ∙ said x may)
+    let whole : read_one st bs ≡ read_body st (two bs 2) (take (two bs 0 - 2) (drop 4 bs)) = grind (arith, nat_tests) in
+    whole
+    ∙ (λ i. read_body st (code i) (body i))
+    ∙ body_back st next (kind_for x) (body_of x) x order (said x may)
     ∙ ap (λ m. Ok (record { says = x; size = m; stage = next })) (omega arith)
 
 -- nothing follows the end
@@ -150,9 +147,11 @@ more Running next k order = refl
 more Ended next k order = absurd cc
 
 rest_back : (xs : List Item) (st : Stage) (n : ℕ) → AllByRecursion Proper xs → Orderly st xs → remaining st n (written xs) ≡ record { records = placed n xs; ending = whole }
-rest_back [] st n may order = whole_at_end st n [] order refl
+rest_back [] st n may order = rw order (remaining_step Ended n [])
 rest_back (x ∷ xs) st n (may, mays) (next, order, orders) =
-    record_at st n (written (x ∷ xs)) _ (more st next (kind_for x) order) (record_back x st next (written xs) may order)
+    remaining_step st n (written (x ∷ xs))
+    ∙ cond-false (ended st) _ _ (more st next (kind_for x) order)
+    ∙ ap (after remaining n (written (x ∷ xs))) (record_back x st next (written xs) may order)
     ∙ ap (λ l. first (n, x) (remaining next (n + length (encoded x)) l)) (drop_at (encoded x) (written xs) _ refl)
     ∙ ap (first (n, x)) (rest_back xs next (n + length (encoded x)) mays orders)
 

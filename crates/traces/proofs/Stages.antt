@@ -1,5 +1,5 @@
 -- The order of a trace, by stages and in words.
-use Rattle.std.proofs.Common.{◌≡◌, ℕ, List, [], ◌∷◌, Some, sym, refl, subst, arith}
+use Rattle.std.proofs.Common.{◌≡◌, ℕ, List, [], ◌∷◌, Some, sym, refl, subst}
 use Rattle.traces.specs.declared.order.Stage.{Stage}
 use Rattle.traces.specs.declared.order.Stage.TheVariants.{Start, Opened, Running, Ended}
 use Rattle.traces.specs.Layout.{Item, table, limit, ticks, request, release, report, end, follows}
