@@ -39,12 +39,13 @@ pub struct Taken<'a> {
     pub stage: Stage,
 }
 
+/// A device's number and its rows, 1 to 16.
 fn table(body: &[u8]) -> Option<Event<'_>>
     ensures { option_map item result ≡ content kind.Table body.now }
 {
     match body {
         [n0, n1, count, rows @ ..]
-            if 1 <= *count && *count <= MAX_ROWS && rows.len() == ROW_LEN * usize::from(*count) =>
+            if (1..=MAX_ROWS).contains(count) && rows.len() == ROW_LEN * usize::from(*count) =>
             Some(Event::Table {
                 number: u16::from_le_bytes([*n0, *n1]),
                 rows,
@@ -53,6 +54,7 @@ fn table(body: &[u8]) -> Option<Event<'_>>
     }
 }
 
+/// A latency limit.
 fn limit(body: &[u8]) -> Option<Event<'_>>
     ensures { option_map item result ≡ content kind.Limit body.now }
 {
@@ -64,6 +66,7 @@ fn limit(body: &[u8]) -> Option<Event<'_>>
     }
 }
 
+/// A count of ticks, 1 to 1,000,000.
 fn ticks(body: &[u8]) -> Option<Event<'_>>
     ensures { option_map item result ≡ content kind.Ticks body.now }
 {
@@ -76,6 +79,7 @@ fn ticks(body: &[u8]) -> Option<Event<'_>>
     }
 }
 
+/// Whether each byte of a note can be printed, and is no space.
 fn is_printable(note: &[u8]) -> bool
     ensures { result ≡ printable note.now }
 {
@@ -83,6 +87,7 @@ fn is_printable(note: &[u8]) -> bool
         .all(|b| (FIRST_PRINTABLE..=LAST_PRINTABLE).contains(b))
 }
 
+/// A device's number and a note.
 fn request(body: &[u8]) -> Option<Event<'_>>
     ensures { option_map item result ≡ content kind.Request body.now }
 {
@@ -97,6 +102,7 @@ fn request(body: &[u8]) -> Option<Event<'_>>
     }
 }
 
+/// A device's number.
 fn release(body: &[u8]) -> Option<Event<'_>>
     ensures { option_map item result ≡ content kind.Release body.now }
 {
@@ -108,6 +114,7 @@ fn release(body: &[u8]) -> Option<Event<'_>>
     }
 }
 
+/// A device's number and a code.
 fn report(body: &[u8]) -> Option<Event<'_>>
     ensures { option_map item result ≡ content kind.Report body.now }
 {
@@ -131,13 +138,7 @@ fn event_of(kind: Kind, body: &[u8]) -> Option<Event<'_>>
         Kind::Request => request(body),
         Kind::Release => release(body),
         Kind::Report => report(body),
-        Kind::End => {
-            if body.is_empty() {
-                Some(Event::End)
-            } else {
-                None
-            }
-        }
+        Kind::End => body.is_empty().then_some(Event::End),
     }
 }
 

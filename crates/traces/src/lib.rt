@@ -21,6 +21,7 @@ pub fn check(trace: &[u8]) -> Result<usize, Refusal>
 {
     let mut reader = Reader::new(trace)?;
     let mut count = 0;
+    // A plain loop: as an `Iterator` the reader would hand out refusals as items, and `count` would count them.
     while let Some(_) = reader.next()? {
         count += 1;
     }
