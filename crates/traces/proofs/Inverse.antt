@@ -1,16 +1,16 @@
 -- Writing a trace and reading it are inverse.
-use Rattle.std.proofs.Common.{◌≡◌, ℕ, zero, suc, ◌+◌, ◌-◌, ◌/◌, ◌%◌, ◌^◌, ◌<◌, ◌≤◌, Bool, true, false, cond, eqb, ltb, List, [], ◌∷◌, ◌++◌, length, get_or, take, drop, Some, Ok, Option, sym, refl, ap, ◌∙◌, subst, arith, w8, Fits, length-append, length-drop}
+use Rattle.std.proofs.Common.{◌≡◌, ℕ, zero, suc, ◌+◌, ◌-◌, ◌/◌, ◌%◌, ◌^◌, ◌<◌, ◌≤◌, Bool, true, false, ltb, List, [], ◌∷◌, ◌++◌, length, get_or, take, drop, Some, Ok, sym, refl, ap, ◌∙◌, subst, arith, w8, Fits, length-append, length-drop}
 use Rattle.std.specs.List.{AllByRecursion}
 use Rattle.std.proofs.ByRecursion.{All-take, All-drop, All-from_get_or}
 use Rattle.std.proofs.lemmas.List.{drop_all, drop_more, nil_from_length, take_at, drop_at, drop-drop, length-take-le, take-append-drop}
 use Rattle.std.proofs.lemmas.Bool.Decides.{nat_tests}
 use Rattle.std.proofs.lemmas.Option.{cond_some}
-use Rattle.std.proofs.lemmas.Bool.{cond-false, cond_both, le-ltb, eqb-true, ltb-false}
+use Rattle.std.proofs.lemmas.Bool.{cond-false, cond_both, le-ltb, ltb-false}
 use Rattle.traces.specs.declared.order.Kind.{Kind}
 use Rattle.traces.specs.declared.order.Kind.TheVariants as kind
 use Rattle.traces.specs.declared.order.Stage.{Stage}
-use Rattle.traces.specs.declared.order.Stage.TheVariants.{Start, Opened, Running, Ended}
-use Rattle.traces.specs.Layout.{Item, table, limit, ticks, request, release, report, end, Step, printable, two, four, if, content, kind_of, follows, read_body, read_one}
+use Rattle.traces.specs.declared.order.Stage.TheVariants.{Start, Ended}
+use Rattle.traces.specs.Layout.{Item, table, request, Step, printable, two, four, if, content, kind_of, follows, read_body, read_one}
 use Rattle.traces.specs.Reading.{Reading, whole, first, ended, closing, after, remaining, reading}
 use Rattle.traces.specs.Written.{le2, le4, kind_for, code_of, body_of, encoded, written, placed, Bytes, Printable, Proper, Fitting, Sound, items, ReadsBack, OnlyWritten}
 use Rattle.traces.proofs.Stages.{Orderly, by_stages, in_words}
@@ -59,12 +59,8 @@ all_printable (b ∷ bs) (range, h) = grind (arith, nat_tests, all_printable bs 
 -- the body says the item again
 said : (x : Item) → Proper x → content (kind_for x) (body_of x) ≡ Some x
 said (table n rows) (k, some, few, long) = grind (arith, nat_tests, two_le2)
-said (limit l) h = grind (arith, nat_tests, four_le4)
-said (ticks c) h = grind (arith, nat_tests, four_le4)
 said (request n note) (few, clean) = grind (arith, nat_tests, two_le2, all_printable note clean)
-said (release n) h = grind (arith, nat_tests, two_le2)
-said (report n c) h = grind (arith, nat_tests, two_le2, four_le4)
-said end h = refl
+said x h = grind (arith, nat_tests, two_le2, four_le4)
 
 -- what holds of an item where its test holds, holds of what was read
 from_if : (P : Item → Type 0) {b : Bool} {y x : Item} → if b y ≡ Some x → (b ≡ true → P y) → P x
@@ -73,12 +69,9 @@ from_if P e holds = let (t, is) = cond_some _ _ _ e in subst P is (holds t)
 -- what is read of a body may be said
 pub proper : (k : Kind) (bs : List ℕ) (x : Item) → content k bs ≡ Some x → Proper x
 proper kind.Table bs x e = from_if Proper e (λ t. (get_or bs 2 0, grind (arith, nat_tests), grind (arith, nat_tests), grind (arith, nat_tests, length-drop)))
-proper kind.Limit bs x e = from_if Proper e (λ t. tt)
 proper kind.Ticks bs x e = from_if Proper e (λ t. grind (arith, nat_tests))
 proper kind.Request bs x e = from_if Proper e (λ t. (grind (arith, nat_tests, length-drop), printable_all (drop 2 bs) (grind (arith, nat_tests))))
-proper kind.Release bs x e = from_if Proper e (λ t. tt)
-proper kind.Report bs x e = from_if Proper e (λ t. tt)
-proper kind.End bs x e = from_if Proper e (λ t. tt)
+proper k bs x e = from_if Proper e (λ t. tt)
 
 -- a record that is read keeps its bounds
 pub read_proper : (st next : Stage) (bs : List ℕ) (x : Item) (n : ℕ) → read_one st bs ≡ Ok (record { says = x; size = n; stage = next }) → Proper x
@@ -112,12 +105,7 @@ again kind.End bs x h e = from_if (Again kind.End bs) e (λ t. record { fitting 
 
 known : (k : Kind) → kind_of (code_of k) ≡ Some k
 known kind.Table = refl
-known kind.Limit = refl
-known kind.Ticks = refl
-known kind.Request = refl
-known kind.Release = refl
-known kind.Report = refl
-known kind.End = refl
+known k = refl
 
 -- past the tests on the length, the content decides
 body_back : (st next : Stage) (k : Kind) (body : List ℕ) (x : Item) → follows st k ≡ Some next → content k body ≡ Some x →
@@ -141,10 +129,8 @@ record_back x st next rest may order =
 
 -- nothing follows the end
 more : (st next : Stage) (k : Kind) → follows st k ≡ Some next → ended st ≡ false
-more Start next k order = refl
-more Opened next k order = refl
-more Running next k order = refl
 more Ended next k order = absurd cc
+more st next k order = refl
 
 rest_back : (xs : List Item) (st : Stage) (n : ℕ) → AllByRecursion Proper xs → Orderly st xs → remaining st n (written xs) ≡ record { records = placed n xs; ending = whole }
 rest_back [] st n may order = rw order (remaining_step Ended n [])
@@ -162,12 +148,8 @@ reads_back xs sound =
 
 -- the number of a known kind
 code_back : (n : ℕ) (k : Kind) → kind_of n ≡ Some k → code_of k ≡ n
-code_back n k =
-    step 1 kind.Table _ (λ e. e) (step 2 kind.Limit _ (λ e. e) (step 3 kind.Ticks _ (λ e. e) (step 4 kind.Request _ (λ e. e)
-    (step 5 kind.Release _ (λ e. e) (step 6 kind.Report _ (λ e. e) (step 7 kind.End _ (λ e. e) (λ e. absurd cc)))))))
-  where
-    step : (m : ℕ) (j : Kind) (o : Option Kind) → (n ≡ m → n ≡ code_of j) → (o ≡ Some k → code_of k ≡ n) → cond (eqb n m) (Some j) o ≡ Some k → code_of k ≡ n
-    step m j o is other = cond_both (eqb n m) (Some j) o (λ p. p ≡ Some k → code_of k ≡ n) (λ t e. let same : j ≡ k = cc in sym (is (eqb-true n m t) ∙ ap code_of same)) (λ _. other)
+code_back n kind.Table e = grind (arith, nat_tests)
+code_back n k e = grind (arith, nat_tests)
 
 -- a record that was read is written as the bytes that it took
 frame_back : (bs b : List ℕ) (m k : ℕ) → Bytes bs → m + 4 ≤ length bs → two bs 0 ≡ m + 2 → k ≡ two bs 2 → b ≡ take m (drop 4 bs) → le2 (2 + length b) ++ (le2 k ++ b) ++ drop m (drop 4 bs) ≡ bs
@@ -205,11 +187,8 @@ from_whole =
     (λ st n bs t rest m is behind h e. from_record st bs t (items rest) h (came st bs t is) (behind (All-drop _ t.size bs h) e))
   where
     closed : (st : Stage) (n : ℕ) (bs : List ℕ) → ended st ≡ true → (closing n bs).ending ≡ whole → From st bs (items (closing n bs))
-    closed Start n bs done e = absurd cc
-    closed Opened n bs done e = absurd cc
-    closed Running n bs done e = absurd cc
     closed Ended n [] done e = record { proper = tt; fitting = tt; order = refl; bytes = refl }
-    closed Ended n (b ∷ bs) done e = absurd cc
+    closed st n bs done e = absurd cc
 
 pub only_written : (bs : List ℕ) → ((i : ℕ) → Fits w8 (get_or bs i 0)) → OnlyWritten bs
 unfolding reading

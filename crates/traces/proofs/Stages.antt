@@ -36,31 +36,21 @@ to : (xs : List Item) {st next : Stage} → Some st ≡ Some next → Orderly ne
 to xs {st = st} {next = next} e o = let same : next ≡ st = cc in subst (λ s. Orderly s xs) same o
 
 course : (xs : List Item) → Orderly Running xs → Course xs
-course [] o = absurd cc
-course (table n rows ∷ xs) (next, e, o) = absurd cc
-course (limit l ∷ xs) (next, e, o) = absurd cc
 course (ticks c ∷ xs) (next, e, o) = ticked (course xs (to xs e o))
 course (request n note ∷ xs) (next, e, o) = requested (course xs (to xs e o))
 course (release n ∷ xs) (next, e, o) = released (course xs (to xs e o))
 course (report n c ∷ xs) (next, e, o) = reported (course xs (to xs e o))
 course (end ∷ xs) (next, e, o) = subst (λ l. Course (end ∷ l)) (sym (nothing_after xs (to xs e o))) ended
+course (table n rows ∷ xs) (next, e, o) = absurd cc
+course (limit l ∷ xs) (next, e, o) = absurd cc
+course [] o = absurd cc
 
 second : {n : ℕ} {rows : List ℕ} (xs : List Item) → Orderly Opened xs → InOrder (table n rows ∷ xs)
-second [] o = absurd cc
-second (table n rows ∷ xs) (next, e, o) = absurd cc
 second (limit l ∷ xs) (next, e, o) = limited (course xs (to xs e o))
-second (ticks c ∷ xs) o = plain (course (ticks c ∷ xs) o)
-second (request n note ∷ xs) o = plain (course (request n note ∷ xs) o)
-second (release n ∷ xs) o = plain (course (release n ∷ xs) o)
-second (report n c ∷ xs) o = plain (course (report n c ∷ xs) o)
-second (end ∷ xs) o = plain (course (end ∷ xs) o)
+second (table n rows ∷ xs) (next, e, o) = absurd cc
+second [] o = absurd cc
+second xs o = plain (course xs o)
 
 pub in_words : (xs : List Item) → Orderly Start xs → InOrder xs
-in_words [] o = absurd cc
 in_words (table n rows ∷ xs) (next, e, o) = second xs (to xs e o)
-in_words (limit l ∷ xs) (next, e, o) = absurd cc
-in_words (ticks c ∷ xs) (next, e, o) = absurd cc
-in_words (request n note ∷ xs) (next, e, o) = absurd cc
-in_words (release n ∷ xs) (next, e, o) = absurd cc
-in_words (report n c ∷ xs) (next, e, o) = absurd cc
-in_words (end ∷ xs) (next, e, o) = absurd cc
+in_words xs o = absurd cc
