@@ -166,6 +166,7 @@ pub(crate) fn read_one(stage: Stage, bytes: &[u8]) -> Result<Taken<'_>, Fault>
         return Err(Fault::Cut);
     };
     let length = usize::from(u16::from_le_bytes([*l0, *l1]));
+    // A length below 2 never asks for more bytes than are left, so either of the two tests may come first.
     let body_len = length.checked_sub(KIND_LEN).ok_or(Fault::Malformed)?;
     let body = rest.get(..body_len).ok_or(Fault::Cut)?;
     read_body(stage, u16::from_le_bytes([*k0, *k1]), body)
