@@ -1,7 +1,6 @@
 //! From the first record of a trace to the run: the device, its limit, and attach.
 ghost use Rattle.std.specs.Prelude.{◌≡◌, ◌++◌, IfOk, Some, string_bytes, OnOk};
 ghost use Rattle.devices.specs.Rows as tables;
-ghost use Rattle.traces.specs.Ahead.{ahead};
 ghost use Rattle.traces.specs.Layout as layout;
 ghost use Rattle.traces.specs.Written.{Proper};
 ghost use Rattle.replay.specs.Lines as lines;
@@ -23,7 +22,7 @@ fn next_or_stop<'a>(
     out: &mut String,
     reader: &mut Reader<'a>,
 ) -> Result<Option<Record<'a>>, AllocError>
-    ensures { IfOk result (λ handed. Opens handed (ahead reader.old) (ahead reader.new) (string_bytes out.old) (string_bytes out.new)) }
+    ensures { IfOk result (λ handed. Opens handed reader.old reader.new (string_bytes out.old) (string_bytes out.new)) }
 {
     match reader.next() {
         Ok(handed) => Ok(handed),
@@ -43,7 +42,7 @@ fn attach<D: Device + Drop>(
     reader: &mut Reader<'_>,
 ) -> Result<(), AllocError>
     requires { Proper (layout.item first.event) }
-    ensures { OnOk result (string_bytes out.new ≡ string_bytes out.old ++ lines.written (runs.told_of (ahead reader.old).ending (Some (record { number = number; table = D.StateTable.table device; status = D.Device.status device; next = (first.entry.offset, layout.item first.entry.event); others = (ahead reader.old).records })))) }
+    ensures { OnOk result (string_bytes out.new ≡ string_bytes out.old ++ lines.written (runs.told_of reader.old.ending (Some (record { number = number; table = D.StateTable.table device; status = D.Device.status device; next = (first.entry.offset, layout.item first.entry.event); others = reader.old.records })))) }
 {
     match Run::attach(number, device) {
         Ok(mut run) => {
@@ -62,7 +61,7 @@ fn face<D: Device + Drop>(
     device: D,
     reader: &mut Reader<'_>,
 ) -> Result<(), AllocError>
-    ensures { OnOk result (string_bytes out.new ≡ string_bytes out.old ++ lines.written (runs.told_of (ahead reader.old).ending (runs.facing number (D.StateTable.table device) (D.Device.status device) (ahead reader.old).records))) }
+    ensures { OnOk result (string_bytes out.new ≡ string_bytes out.old ++ lines.written (runs.told_of reader.old.ending (runs.facing number (D.StateTable.table device) (D.Device.status device) reader.old.records))) }
 {
     match next_or_stop(out, reader)? {
         Some(first) => attach(out, number, device, first, reader),
@@ -89,7 +88,7 @@ fn behind_table(
     reader: &mut Reader<'_>,
 ) -> Result<(), AllocError>
     requires { Proper (layout.table number rows.now) }
-    ensures { OnOk result (string_bytes out.new ≡ string_bytes out.old ++ lines.written (runs.told_of (ahead reader.old).ending (runs.tabled number rows.now (ahead reader.old).records))) }
+    ensures { OnOk result (string_bytes out.new ≡ string_bytes out.old ++ lines.written (runs.told_of reader.old.ending (runs.tabled number rows.now reader.old.records))) }
 {
     let device = device_of(number, rows);
     match next_or_stop(out, reader)? {
@@ -105,8 +104,8 @@ fn behind_table(
 
 /// Works a trace from its first record on, which is a table.
 pub(crate) fn work_trace(out: &mut String, reader: &mut Reader<'_>) -> Result<(), AllocError>
-    requires { runs.Starts (ahead reader.old).records }
-    ensures { OnOk result (string_bytes out.new ≡ string_bytes out.old ++ lines.written (runs.lines_for (ahead reader.old))) }
+    requires { runs.Starts reader.old.records }
+    ensures { OnOk result (string_bytes out.new ≡ string_bytes out.old ++ lines.written (runs.lines_for reader.old)) }
 {
     match next_or_stop(out, reader)? {
         Some(first) => match first.event {

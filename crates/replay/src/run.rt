@@ -22,7 +22,6 @@ impl<D: Device + Drop> Run<D> {
     ghost use Rattle.std.specs.Result.{result_err};
     ghost use Rattle.manager.specs.Rules.{attach_refusal, started};
     ghost use Rattle.manager.specs.Told.{told_unattached};
-    ghost use Rattle.traces.specs.Ahead.{ahead};
     ghost use Rattle.traces.specs.Layout as layout;
     ghost use Rattle.traces.specs.Reading.{whole};
     ghost use Rattle.traces.specs.Written.{Proper};
@@ -155,8 +154,8 @@ impl<D: Device + Drop> Run<D> {
 
     /// Reads and works the next record, or writes how the run ends. Answers whether it goes on.
     fn advance(&mut self, out: &mut String, reader: &mut Reader<'_>) -> Result<bool, AllocError>
-        ensures moves { IfOk result (λ on. on ≡ true → length (ahead reader.new).records < length (ahead reader.old).records) }
-        ensures value { IfOk result (λ on. string_bytes out.new ++ (if on then lines.written (runs.run_on (stands D.Device self.new) (ahead reader.new)) else []) ≡ string_bytes out.old ++ lines.written (runs.run_on (stands D.Device self.old) (ahead reader.old))) }
+        ensures moves { IfOk result (λ on. on ≡ true → length reader.new.records < length reader.old.records) }
+        ensures value { IfOk result (λ on. string_bytes out.new ++ (if on then lines.written (runs.run_on (stands D.Device self.new) reader.new) else []) ≡ string_bytes out.old ++ lines.written (runs.run_on (stands D.Device self.old) reader.old)) }
     {
         match reader.next() {
             Ok(handed) => match handed {
@@ -181,7 +180,7 @@ impl<D: Device + Drop> Run<D> {
         reader: &mut Reader<'_>,
     ) -> Result<(), AllocError>
         requires { Proper (layout.item first.event) }
-        ensures { OnOk result (string_bytes out.new ≡ string_bytes out.old ++ lines.written (lines.device (stands D.Device self.old).number ∷ runs.run (stands D.Device self.old) ((first.entry.offset, layout.item first.entry.event) ∷ (ahead reader.old).records) (ahead reader.old).ending)) }
+        ensures { OnOk result (string_bytes out.new ≡ string_bytes out.old ++ lines.written (lines.device (stands D.Device self.old).number ∷ runs.run (stands D.Device self.old) ((first.entry.offset, layout.item first.entry.event) ∷ reader.old.records) reader.old.ending)) }
     {
         push_device(out, self.manager.number())?;
         if self.step(out, first)? {

@@ -1,5 +1,5 @@
 -- The order of a trace, by stages and in words.
-use Rattle.std.proofs.Common.{◌≡◌, ℕ, List, [], ◌∷◌, Some, sym, refl, subst, arith}
+use Rattle.std.proofs.Common.{◌≡◌, ℕ, List, [], ◌∷◌, Some, sym, refl, subst}
 use Rattle.traces.specs.declared.order.Stage.{Stage}
 use Rattle.traces.specs.declared.order.Stage.TheVariants.{Start, Opened, Running, Ended}
 use Rattle.traces.specs.Layout.{Item, table, limit, ticks, request, release, report, end, follows}
@@ -30,37 +30,27 @@ by_stages (limited h) = (Opened, refl, (Running, refl, running h))
 
 nothing_after : (xs : List Item) → Orderly Ended xs → xs ≡ []
 nothing_after [] o = refl
-nothing_after (x ∷ xs) (next, e, o) = let z : ◌≡◌ {A = ℕ} 0 1 = cc in absurd (omega arith)
+nothing_after (x ∷ xs) (next, e, o) = absurd cc
 
 to : (xs : List Item) {st next : Stage} → Some st ≡ Some next → Orderly next xs → Orderly st xs
 to xs {st = st} {next = next} e o = let same : next ≡ st = cc in subst (λ s. Orderly s xs) same o
 
 course : (xs : List Item) → Orderly Running xs → Course xs
-course [] o = let z : ◌≡◌ {A = ℕ} 0 1 = cc in absurd (omega arith)
-course (table n rows ∷ xs) (next, e, o) = let z : ◌≡◌ {A = ℕ} 0 1 = cc in absurd (omega arith)
-course (limit l ∷ xs) (next, e, o) = let z : ◌≡◌ {A = ℕ} 0 1 = cc in absurd (omega arith)
 course (ticks c ∷ xs) (next, e, o) = ticked (course xs (to xs e o))
 course (request n note ∷ xs) (next, e, o) = requested (course xs (to xs e o))
 course (release n ∷ xs) (next, e, o) = released (course xs (to xs e o))
 course (report n c ∷ xs) (next, e, o) = reported (course xs (to xs e o))
 course (end ∷ xs) (next, e, o) = subst (λ l. Course (end ∷ l)) (sym (nothing_after xs (to xs e o))) ended
+course (table n rows ∷ xs) (next, e, o) = absurd cc
+course (limit l ∷ xs) (next, e, o) = absurd cc
+course [] o = absurd cc
 
 second : {n : ℕ} {rows : List ℕ} (xs : List Item) → Orderly Opened xs → InOrder (table n rows ∷ xs)
-second [] o = let z : ◌≡◌ {A = ℕ} 0 1 = cc in absurd (omega arith)
-second (table n rows ∷ xs) (next, e, o) = let z : ◌≡◌ {A = ℕ} 0 1 = cc in absurd (omega arith)
 second (limit l ∷ xs) (next, e, o) = limited (course xs (to xs e o))
-second (ticks c ∷ xs) o = plain (course (ticks c ∷ xs) o)
-second (request n note ∷ xs) o = plain (course (request n note ∷ xs) o)
-second (release n ∷ xs) o = plain (course (release n ∷ xs) o)
-second (report n c ∷ xs) o = plain (course (report n c ∷ xs) o)
-second (end ∷ xs) o = plain (course (end ∷ xs) o)
+second (table n rows ∷ xs) (next, e, o) = absurd cc
+second [] o = absurd cc
+second xs o = plain (course xs o)
 
 pub in_words : (xs : List Item) → Orderly Start xs → InOrder xs
-in_words [] o = let z : ◌≡◌ {A = ℕ} 0 1 = cc in absurd (omega arith)
 in_words (table n rows ∷ xs) (next, e, o) = second xs (to xs e o)
-in_words (limit l ∷ xs) (next, e, o) = let z : ◌≡◌ {A = ℕ} 0 1 = cc in absurd (omega arith)
-in_words (ticks c ∷ xs) (next, e, o) = let z : ◌≡◌ {A = ℕ} 0 1 = cc in absurd (omega arith)
-in_words (request n note ∷ xs) (next, e, o) = let z : ◌≡◌ {A = ℕ} 0 1 = cc in absurd (omega arith)
-in_words (release n ∷ xs) (next, e, o) = let z : ◌≡◌ {A = ℕ} 0 1 = cc in absurd (omega arith)
-in_words (report n c ∷ xs) (next, e, o) = let z : ◌≡◌ {A = ℕ} 0 1 = cc in absurd (omega arith)
-in_words (end ∷ xs) (next, e, o) = let z : ◌≡◌ {A = ℕ} 0 1 = cc in absurd (omega arith)
+in_words xs o = absurd cc

@@ -1,26 +1,14 @@
 -- How a reading goes on, record by record.
-use Rattle.std.proofs.Common.{◌≡◌, ℕ, zero, suc, ◌+◌, ◌-◌, ◌*◌, ◌<◌, ◌≤◌, true, false, cond, ltb, List, [], ◌∷◌, length, take, drop, Some, None, Ok, Err, Option, Result, refl, ap, ◌∙◌, subst, arith, length-drop}
+use Rattle.std.proofs.Common.{◌≡◌, ℕ, zero, suc, ◌+◌, ◌-◌, ◌*◌, ◌<◌, ◌≤◌, true, false, cond, ltb, List, [], ◌∷◌, length, take, drop, Some, None, Ok, Err, Option, Result, refl, ap, subst, arith, length-drop}
 use Rattle.std.specs.Option.{ok_or}
 use Rattle.std.proofs.lemmas.List.{length-take-le}
-use Rattle.std.proofs.lemmas.Bool.{cond-true, cond-false, cond_both, le-ltb, ltb-false}
+use Rattle.std.proofs.lemmas.Bool.{cond_both, ltb-false}
+use Rattle.std.proofs.lemmas.Bool.Decides.{nat_tests}
 use Rattle.traces.specs.declared.order.Kind.{Kind}
 use Rattle.traces.specs.declared.order.Stage.{Stage}
-use Rattle.traces.specs.declared.order.Stage.TheVariants.{Start, Ended}
+use Rattle.traces.specs.declared.order.Stage.TheVariants.{Start}
 use Rattle.traces.specs.Layout.{Step, kind_of, follows, content, two, read_body, read_one, ◌then◌}
-use Rattle.traces.specs.Reading.{Reading, whole, refused, ends, first, ended, closing, after, onward, remaining, reading}
-
--- past the tests on the length, the kind and the order, the content decides
-pub decided : (st next : Stage) (kind : Kind) (bs : List ℕ) → 4 ≤ length bs → 2 + two bs 0 ≤ length bs → 2 ≤ two bs 0 → kind_of (two bs 2) ≡ Some kind → follows st kind ≡ Some next →
-    read_one st bs ≡ (ok_or (content kind (take (two bs 0 - 2) (drop 4 bs))) 3 then λ x. Ok (record { says = x; size = 2 + two bs 0; stage = next }))
-decided st next kind bs long fits some known order =
-    let body : List ℕ = take (two bs 0 - 2) (drop 4 bs) in
-    let size : 4 + length body ≡ 2 + two bs 0 = omega (arith, length-take-le (two bs 0 - 2) (drop 4 bs) (omega (arith, length-drop 4 bs))) in
-    cond-false (ltb (length bs) 4) _ _ (le-ltb _ _ long)
-    ∙ cond-false (ltb (length bs) (2 + two bs 0)) _ _ (le-ltb _ _ fits)
-    ∙ cond-false (ltb (two bs 0) 2) _ _ (le-ltb _ _ some)
-    ∙ ap (λ o. ok_or o 2 then λ kind. ok_or (follows st kind) 4 then λ next. ok_or (content kind body) 3 then λ x. Ok (record { says = x; size = 4 + length body; stage = next })) known
-    ∙ ap (λ o. ok_or o 4 then λ next. ok_or (content kind body) 3 then λ x. Ok (record { says = x; size = 4 + length body; stage = next })) order
-    ∙ ap (λ m. ok_or (content kind body) 3 then λ x. Ok (record { says = x; size = m; stage = next })) size
+use Rattle.traces.specs.Reading.{Reading, refused, ends, first, ended, closing, after, onward, remaining, reading}
 
 -- what each test found where a record was read
 pub record Came (st : Stage) (bs : List ℕ) (t : Step) : Type 0 where
@@ -34,23 +22,14 @@ pub record Came (st : Stage) (bs : List ℕ) (t : Step) : Type 0 where
 
 -- a test that was passed, and what went on behind it
 passed : {A B : Type 0} (o : Option A) (e : ℕ) (f : A → Result B ℕ) (t : B) → (ok_or o e then f) ≡ Ok t → (a : A) × (o ≡ Some a) × (f a ≡ Ok t)
-passed None e f t h = let z : ◌≡◌ {A = ℕ} 0 1 = cc in absurd (omega arith)
+passed None e f t h = absurd cc
 passed (Some a) e f t h = (a, refl, h)
 
 pub came : (st : Stage) (bs : List ℕ) (t : Step) → read_one st bs ≡ Ok t → Came st bs t
-came st bs t =
-    cond_both (ltb (length bs) 4) _ _ P (λ _. clash) (λ long.
-    cond_both (ltb (length bs) (2 + two bs 0)) _ _ P (λ _. clash) (λ fits.
-    cond_both (ltb (two bs 0) 2) _ _ P (λ _. clash) (λ some. go (ltb-false _ _ long) (ltb-false _ _ fits) (ltb-false _ _ some))))
+came st bs t e = go (grind (arith, nat_tests)) (grind (arith, nat_tests)) (grind (arith, nat_tests))
   where
-    P : Result Step ℕ → Type 0
-    P o = o ≡ Ok t → Came st bs t
-
-    clash : {e : ℕ} → P (Err e)
-    clash h = let z : ◌≡◌ {A = ℕ} 0 1 = cc in absurd (omega arith)
-
-    go : 4 ≤ length bs → 2 + two bs 0 ≤ length bs → 2 ≤ two bs 0 → P (read_body st (two bs 2) (take (two bs 0 - 2) (drop 4 bs)))
-    go long fits some h =
+    go : 2 ≤ two bs 0 → 2 + two bs 0 ≤ length bs → read_body st (two bs 2) (take (two bs 0 - 2) (drop 4 bs)) ≡ Ok t → Came st bs t
+    go some fits h =
         let body : List ℕ = take (two bs 0 - 2) (drop 4 bs) in
         let k = passed (kind_of (two bs 2)) 2 _ t h in
         let s = passed (follows st k.0) 4 _ t k.2 in
@@ -89,28 +68,20 @@ module _ (P : Stage → ℕ → List ℕ → Reading → Type 0)
     induct st n bs = within (suc (length bs)) st n bs (omega arith)
 
 -- more steps than bytes are enough
-enough : (k : ℕ) (st : Stage) (n : ℕ) (bs : List ℕ) → length bs < k → onward k st n bs ≡ remaining st n bs
+enough : (k j : ℕ) (st : Stage) (n : ℕ) (bs : List ℕ) → length bs < k → length bs < j → onward k st n bs ≡ onward j st n bs
 unfolding onward
-enough k st n bs h =
-    induct (λ st n bs r. (k : ℕ) → length bs < k → onward k st n bs ≡ r)
-    (λ st n bs done k h. at_end k st n bs done h)
-    (λ st n bs e more is k h. at_refusal k st n bs e more is h)
-    (λ st n bs t rest more is behind k h. at_record k st n bs t rest more is behind h)
-    st n bs k h
+enough zero j st n bs h _ = absurd (omega arith)
+enough (suc k) zero st n bs _ h = absurd (omega arith)
+enough (suc k) (suc j) st n bs hk hj =
+    ap (cond (ended st) (closing n bs)) (go (λ t. enough k j t.stage (n + t.size) (drop t.size bs)) (read_one st bs) refl)
   where
-    at_end : (k : ℕ) (st : Stage) (n : ℕ) (bs : List ℕ) → ended st ≡ true → length bs < k → onward k st n bs ≡ closing n bs
-    at_end zero st n bs done h = absurd (omega arith)
-    at_end (suc k) st n bs done h = cond-true (ended st) _ _ done
-
-    at_refusal : (k : ℕ) (st : Stage) (n : ℕ) (bs : List ℕ) (e : ℕ) → ended st ≡ false → read_one st bs ≡ Err e → length bs < k → onward k st n bs ≡ ends (refused n e)
-    at_refusal zero st n bs e more is h = absurd (omega arith)
-    at_refusal (suc k) st n bs e more is h = cond-false (ended st) _ _ more ∙ ap (after (onward k) n bs) is
-
-    at_record : (k : ℕ) (st : Stage) (n : ℕ) (bs : List ℕ) (t : Step) (rest : Reading) → ended st ≡ false → read_one st bs ≡ Ok t → ((k : ℕ) → length (drop t.size bs) < k → onward k t.stage (n + t.size) (drop t.size bs) ≡ rest) → length bs < k → onward k st n bs ≡ first (n, t.says) rest
-    at_record zero st n bs t rest more is behind h = absurd (omega arith)
-    at_record (suc k) st n bs t rest more is behind h =
+    go : ((t : Step) → length (drop t.size bs) < k → length (drop t.size bs) < j → onward k t.stage (n + t.size) (drop t.size bs) ≡ onward j t.stage (n + t.size) (drop t.size bs)) →
+        (o : Result Step ℕ) → read_one st bs ≡ o → after (onward k) n bs o ≡ after (onward j) n bs o
+    go behind (Err e) is = refl
+    go behind (Ok t) is =
         let f = came st bs t is in
-        cond-false (ended st) _ _ more ∙ ap (after (onward k) n bs) is ∙ ap (first (n, t.says)) (behind k (omega (arith, length-drop t.size bs)))
+        let less : length (drop t.size bs) < length bs = omega (arith, length-drop t.size bs) in
+        ap (first (n, t.says)) (behind t (omega arith) (omega arith))
 
 -- one step of a reading
 pub remaining_step : (st : Stage) (n : ℕ) (bs : List ℕ) → remaining st n bs ≡ cond (ended st) (closing n bs) (after remaining n bs (read_one st bs))
@@ -121,7 +92,7 @@ remaining_step st n bs = ap (cond (ended st) (closing n bs)) (go (read_one st bs
     go (Err e) is = refl
     go (Ok t) is =
         let f = came st bs t is in
-        ap (first (n, t.says)) (enough (length bs) t.stage (n + t.size) (drop t.size bs) (omega (arith, length-drop t.size bs)))
+        ap (first (n, t.says)) (enough (length bs) (suc (length (drop t.size bs))) t.stage (n + t.size) (drop t.size bs) (omega (arith, length-drop t.size bs)) (omega arith))
 
 -- each record takes at least four bytes
 pub few : (st : Stage) (n : ℕ) (bs : List ℕ) → 4 * length (remaining st n bs).records ≤ length bs
@@ -141,21 +112,3 @@ unfolding reading
 few_records bs =
     cond_both (ltb 65536 (length bs)) _ _ (λ (r : Reading). 4 * length r.records ≤ 65536) (λ _. omega arith)
     (λ short. omega (arith, few Start 0 bs, ltb-false 65536 (length bs) short))
-
--- what each answer of a reader says of the reading
-module _ (st : Stage) (n : ℕ) (bs : List ℕ) where
-  pub whole_at_end : st ≡ Ended → bs ≡ [] → remaining st n bs ≡ ends whole
-  whole_at_end last none = remaining_step st n bs ∙ cond-true _ _ _ (ap ended last) ∙ ap (closing n) none
-
-  pub refused_past_end : st ≡ Ended → 0 < length bs → remaining st n bs ≡ ends (refused n 4)
-  refused_past_end last some = remaining_step st n bs ∙ cond-true _ _ _ (ap ended last) ∙ go bs some
-    where
-      go : (l : List ℕ) → 0 < length l → closing n l ≡ ends (refused n 4)
-      go [] some = absurd (omega arith)
-      go (b ∷ l) some = refl
-
-  pub refused_at : (e : ℕ) → ended st ≡ false → read_one st bs ≡ Err e → remaining st n bs ≡ ends (refused n e)
-  refused_at e more is = remaining_step st n bs ∙ cond-false _ _ _ more ∙ ap (after remaining n bs) is
-
-  pub record_at : (t : Step) → ended st ≡ false → read_one st bs ≡ Ok t → remaining st n bs ≡ first (n, t.says) (remaining t.stage (n + t.size) (drop t.size bs))
-  record_at t more is = remaining_step st n bs ∙ cond-false _ _ _ more ∙ ap (after remaining n bs) is

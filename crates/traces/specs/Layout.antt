@@ -1,5 +1,6 @@
 -- One record of a trace: its layout, what it says, and why it is refused.
-use Rattle.std.specs.Prelude.{ℕ, ◌+◌, ◌-◌, ◌*◌, Bool, true, cond, ◌&&◌, List, [], ◌∷◌, length, take, drop, Some, None, Ok, Err, Option, Result, ◌==◌, nat_le, nat_lt, slice_index}
+use Rattle.std.specs.Prelude.{ℕ, ◌+◌, ◌-◌, ◌*◌, Bool, cond, ◌&&◌, List, length, take, drop, Some, None, Ok, Err, Option, Result, ◌==◌, nat_le, nat_lt, slice_index}
+use Rattle.std.specs.List.{list_all}
 use Rattle.std.specs.Option.{ok_or}
 use Rattle.traces.specs.declared.order.Kind.{Kind}
 use Rattle.traces.specs.declared.order.Kind.TheVariants as kind
@@ -91,8 +92,7 @@ four bs i = two bs i + two bs (i + 2) * 65536
 
 -- each byte of a note can be printed, and is no space
 abbrev pub printable : List ℕ → Bool
-printable [] = true
-printable (b ∷ bs) = nat_le 33 b && nat_le b 126 && printable bs
+printable = list_all (λ b. nat_le 33 b && nat_le b 126)
 
 -- x where the test holds
 abbrev pub if : Bool → Item → Option Item

@@ -1,11 +1,11 @@
 //! One record, from the bytes where it starts.
-ghost use Rattle.std.specs.Prelude.{◌≡◌, ◌≤◌, length, IfOk};
+ghost use Rattle.std.specs.Prelude.{◌≡◌, ◌+◌, ◌≤◌, length, IfOk};
 ghost use Rattle.std.specs.Option.{option_map};
-ghost use Rattle.traces.specs.Layout.{content, item, printable, read_one, shown};
+ghost use Rattle.traces.specs.Layout.{content, item, printable, read_body, read_one, shown};
 ghost use Rattle.traces.specs.declared.order.Kind.TheVariants as kind;
 
 use crate::event::{Event, Fault};
-use crate::order::{Kind, Stage, kind_of, next_stage};
+use crate::order::{Kind, Stage};
 
 /// A table has 1 to this many rows.
 const MAX_ROWS: u8 = 16;
@@ -25,26 +25,27 @@ const LAST_PRINTABLE: u8 = 126;
 /// The most ticks in one record.
 const MAX_TICKS: u32 = 1_000_000;
 
-/// The bytes of a length.
-const LENGTH_LEN: usize = 2;
+/// The bytes of a length and a kind.
+const HEAD_LEN: usize = 4;
 
 /// The bytes of a kind, which the length counts.
 const KIND_LEN: usize = 2;
 
 /// A record that was read: what it says, how many bytes it takes, and the stage after it.
-#[derive(Drop)]
+#[derive(Clone, Copy, Debug, PartialEq, Eq)]
 pub struct Taken<'a> {
     pub event: Event<'a>,
     pub size: usize,
     pub stage: Stage,
 }
 
+/// A device's number and its rows, 1 to 16.
 fn table(body: &[u8]) -> Option<Event<'_>>
     ensures { option_map item result ≡ content kind.Table body.now }
 {
     match body {
         [n0, n1, count, rows @ ..]
-            if 1 <= *count && *count <= MAX_ROWS && rows.len() == ROW_LEN * usize::from(*count) =>
+            if (1..=MAX_ROWS).contains(count) && rows.len() == ROW_LEN * usize::from(*count) =>
             Some(Event::Table {
                 number: u16::from_le_bytes([*n0, *n1]),
                 rows,
@@ -53,6 +54,7 @@ fn table(body: &[u8]) -> Option<Event<'_>>
     }
 }
 
+/// A latency limit.
 fn limit(body: &[u8]) -> Option<Event<'_>>
     ensures { option_map item result ≡ content kind.Limit body.now }
 {
@@ -64,6 +66,7 @@ fn limit(body: &[u8]) -> Option<Event<'_>>
     }
 }
 
+/// A count of ticks, 1 to 1,000,000.
 fn ticks(body: &[u8]) -> Option<Event<'_>>
     ensures { option_map item result ≡ content kind.Ticks body.now }
 {
@@ -76,17 +79,15 @@ fn ticks(body: &[u8]) -> Option<Event<'_>>
     }
 }
 
+/// Whether each byte of a note can be printed, and is no space.
 fn is_printable(note: &[u8]) -> bool
     ensures { result ≡ printable note.now }
 {
-    for b in note {
-        if *b < FIRST_PRINTABLE || *b > LAST_PRINTABLE {
-            return false;
-        }
-    }
-    true
+    note.iter()
+        .all(|b| (FIRST_PRINTABLE..=LAST_PRINTABLE).contains(b))
 }
 
+/// A device's number and a note.
 fn request(body: &[u8]) -> Option<Event<'_>>
     ensures { option_map item result ≡ content kind.Request body.now }
 {
@@ -101,6 +102,7 @@ fn request(body: &[u8]) -> Option<Event<'_>>
     }
 }
 
+/// A device's number.
 fn release(body: &[u8]) -> Option<Event<'_>>
     ensures { option_map item result ≡ content kind.Release body.now }
 {
@@ -112,6 +114,7 @@ fn release(body: &[u8]) -> Option<Event<'_>>
     }
 }
 
+/// A device's number and a code.
 fn report(body: &[u8]) -> Option<Event<'_>>
     ensures { option_map item result ≡ content kind.Report body.now }
 {
@@ -135,14 +138,23 @@ fn event_of(kind: Kind, body: &[u8]) -> Option<Event<'_>>
         Kind::Request => request(body),
         Kind::Release => release(body),
         Kind::Report => report(body),
-        Kind::End => {
-            if body.is_empty() {
-                Some(Event::End)
-            } else {
-                None
-            }
-        }
+        Kind::End => body.is_empty().then_some(Event::End),
     }
+}
+
+/// The record of the kind numbered `code` and with this body.
+fn read_body(stage: Stage, code: u16, body: &[u8]) -> Result<Taken<'_>, Fault>
+    ensures value { shown result ≡ read_body stage code body.now }
+    ensures size { IfOk result (λ t. t.size ≡ 4 + length body.now) }
+{
+    let kind = Kind::try_from(code)?;
+    let stage = stage.after(kind).ok_or(Fault::OutOfOrder)?;
+    let event = event_of(kind, body).ok_or(Fault::Malformed)?;
+    Ok(Taken {
+        event,
+        size: HEAD_LEN + body.len(),
+        stage,
+    })
 }
 
 /// The record at the front of `bytes`.
@@ -154,25 +166,8 @@ pub(crate) fn read_one(stage: Stage, bytes: &[u8]) -> Result<Taken<'_>, Fault>
         return Err(Fault::Cut);
     };
     let length = usize::from(u16::from_le_bytes([*l0, *l1]));
-    if rest.len() + KIND_LEN < length {
-        return Err(Fault::Cut);
-    }
-    if length < KIND_LEN {
-        return Err(Fault::Malformed);
-    }
-    let Some(kind) = kind_of(u16::from_le_bytes([*k0, *k1])) else {
-        return Err(Fault::UnknownKind);
-    };
-    let Some(after) = next_stage(stage, kind) else {
-        return Err(Fault::OutOfOrder);
-    };
-    let (body, _) = rest.split_at(length - KIND_LEN);
-    let Some(event) = event_of(kind, body) else {
-        return Err(Fault::Malformed);
-    };
-    Ok(Taken {
-        event,
-        size: LENGTH_LEN + length,
-        stage: after,
-    })
+    // A length below 2 never asks for more bytes than are left, so either of the two tests may come first.
+    let body_len = length.checked_sub(KIND_LEN).ok_or(Fault::Malformed)?;
+    let body = rest.get(..body_len).ok_or(Fault::Cut)?;
+    read_body(stage, u16::from_le_bytes([*k0, *k1]), body)
 }

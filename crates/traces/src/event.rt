@@ -3,7 +3,7 @@ ghost use Rattle.std.specs.Prelude.{◌≡◌};
 ghost use Rattle.traces.specs.Layout.{told};
 
 /// What a record says, with its rows or its note borrowed from the trace.
-#[derive(Clone, Copy, Debug)]
+#[derive(Clone, Copy, Debug, PartialEq, Eq)]
 pub enum Event<'a> {
     Table { number: u16, rows: &'a [u8] },
     Limit { latency: u32 },
@@ -15,25 +15,25 @@ pub enum Event<'a> {
 }
 
 /// An event, and the offset where its record starts.
-#[derive(Clone, Copy, Debug)]
+#[derive(Clone, Copy, Debug, PartialEq, Eq)]
 pub struct Record<'a> {
     pub offset: usize,
     pub event: Event<'a>,
 }
 
-/// Why a trace is refused.
+/// Why a trace is refused, by its number.
 #[derive(Clone, Copy, Debug, PartialEq, Eq)]
 pub enum Fault {
     /// The bytes end before a record is complete, or without an end record.
-    Cut,
+    Cut = 1,
     /// The kind is not known.
-    UnknownKind,
+    UnknownKind = 2,
     /// The length is below 2, or the body is wrong.
-    Malformed,
+    Malformed = 3,
     /// The kind may not stand here, or bytes follow the end record.
-    OutOfOrder,
+    OutOfOrder = 4,
     /// The trace has too many bytes.
-    TooLong,
+    TooLong = 5,
 }
 
 impl Fault {
@@ -41,13 +41,7 @@ impl Fault {
     pub fn number(self) -> u8
         ensures { result ≡ told self }
     {
-        match self {
-            Fault::Cut => 1,
-            Fault::UnknownKind => 2,
-            Fault::Malformed => 3,
-            Fault::OutOfOrder => 4,
-            Fault::TooLong => 5,
-        }
+        self as u8
     }
 }
 

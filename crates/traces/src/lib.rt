@@ -13,6 +13,7 @@ use crate::event::Refusal;
 use crate::reader::Reader;
 
 /// How many records a trace has, or its first refusal.
+#[tactic(auto, using(crate::proofs::Inverse::reads_back, crate::proofs::Inverse::only_written, crate::proofs::Steps::few_records))]
 pub fn check(trace: &[u8]) -> Result<usize, Refusal>
     ensures value { Counts result (reading trace.now) }
     ensures back { ReadsBack }
@@ -20,6 +21,7 @@ pub fn check(trace: &[u8]) -> Result<usize, Refusal>
 {
     let mut reader = Reader::new(trace)?;
     let mut count = 0;
+    // A plain loop: as an `Iterator` the reader would hand out refusals as items, and `count` would count them.
     while let Some(_) = reader.next()? {
         count += 1;
     }

@@ -1,5 +1,4 @@
 use Rattle.std.proofs.Common.{ℕ, List, [], ◌∷◌, ◌++◌, sym, ap, ◌∙◌, subst, rules}
-use Rattle.traces.specs.Ahead.{ahead}
 use Rattle.traces.specs.Reading.{Reading}
 use Rattle.replay.specs.Lines as lines
 use Rattle.replay.specs.Lines.{written}
@@ -22,7 +21,7 @@ returns-in_ok-work_trace-in-Ok c =
     record {
       value =
           c.in_ok-work_trace-in-Ok.ensures
-          ∙ ap (λ (s : List ℕ). s ++ written (lines_for (ahead c.in-Ok.reader))) c.new-out.ensures.bytes
+          ∙ ap (λ (s : List ℕ). s ++ written (lines_for c.in-Ok.reader)) c.new-out.ensures.bytes
           ∙ ap (λ (r : Reading). written (lines_for r)) c.in-Ok.ensures;
       laws = lawful c.args.trace.now;
     }

@@ -1,6 +1,5 @@
 use Rattle.std.proofs.Common.{◌≡◌, ℕ, [], ◌∷◌, ◌++◌, string_bytes, sym, ap, ◌∙◌, arith}
 use Rattle.std.proofs.lemmas.Result.{IfOk-weaker}
-use Rattle.traces.specs.Ahead.{ahead}
 use Rattle.traces.specs.Layout.{Item, item}
 use Rattle.traces.specs.Reading.{Reading, whole, stop}
 use Rattle.replay.specs.Lines as lines
@@ -15,7 +14,7 @@ returns-in-Some g c =
     let m = stands (record { table = g.D.StateTable.table; status = g.D.Device.status }) c.args.self.now in
     let n = stands (record { table = g.D.StateTable.table; status = g.D.Device.status }) c.step.new.self in
     let x : ℕ × Item = (c.in-Some.next.offset, item c.in-Some.next.event) in
-    let rest = ahead c.next.new.self in
+    let rest = c.next.new.self in
     let is = rw c.in-Some.is at c.in-Ok.ensures.value in
     let moves = rw c.in-Some.is at c.in-Ok.ensures.moves in
     record {
@@ -33,7 +32,7 @@ returns-in_ok-close-in-None g c =
     let is = rw c.in-None.is at c.in-Ok.ensures.value in
     record {
       moves = λ e. let z : ◌≡◌ {A = ℕ} 0 1 = cc in absurd (omega arith);
-      value = end_text m (ahead c.args.reader.now) whole (string_bytes c.args.out.now) (string_bytes c.close.new.out) [] is c.in_ok-close-in-None.ensures;
+      value = end_text m c.args.reader.now whole (string_bytes c.args.out.now) (string_bytes c.close.new.out) [] is c.in_ok-close-in-None.ensures;
     }
 
 pub returns-in_ok-push_stop-in-Err : goal.returns-in_ok-push_stop-in-Err
@@ -42,5 +41,5 @@ returns-in_ok-push_stop-in-Err g c =
     let before = string_bytes c.args.out.now in
     record {
       moves = λ e. let z : ◌≡◌ {A = ℕ} 0 1 = cc in absurd (omega arith);
-      value = end_text m (ahead c.args.reader.now) (stop c.in-Err.refusal) (string_bytes c.args.out.now) (string_bytes c.push_stop.new.out) [] c.in-Err.ensures.value (c.in_ok-push_stop-in-Err.ensures ∙ ap (λ (k : ℕ). before ++ written (lines.stop c.in-Err.refusal.place k ∷ [])) c.number.ensures);
+      value = end_text m c.args.reader.now (stop c.in-Err.refusal) (string_bytes c.args.out.now) (string_bytes c.push_stop.new.out) [] c.in-Err.ensures.value (c.in_ok-push_stop-in-Err.ensures ∙ ap (λ (k : ℕ). before ++ written (lines.stop c.in-Err.refusal.place k ∷ [])) c.number.ensures);
     }

@@ -1,5 +1,4 @@
 use Rattle.std.proofs.Common.{◌≡◌, ℕ, Bool, true, false, cond, List, [], ◌++◌, string_bytes, sym, ap, ◌∙◌, append_assoc, append-nil}
-use Rattle.traces.specs.Ahead.{ahead}
 use Rattle.traces.specs.Layout.{Item, item}
 use Rattle.replay.specs.Lines.{device, text, written}
 use Rattle.replay.specs.Runs.{run_on}
@@ -19,9 +18,9 @@ returns-else-branch-2 g c =
     let one = c.in_ok-step.ensures in
     let all = c.in_ok-advance.ensures.value in
     sym (append-nil (string_bytes c.advance.new.out))
-    ∙ ap (λ (on : Bool). string_bytes c.advance.new.out ++ cond on (written (run_on (stands (record { table = g.D.StateTable.table; status = g.D.Device.status }) c.advance.new.self) (ahead c.advance.new.reader))) []) (sym c.if-branch-2.false)
+    ∙ ap (λ (on : Bool). string_bytes c.advance.new.out ++ cond on (written (run_on (stands (record { table = g.D.StateTable.table; status = g.D.Device.status }) c.advance.new.self) c.advance.new.reader)) []) (sym c.if-branch-2.false)
     ∙ all ∙ c.loop.invariant
-    ∙ step_text m n x (ahead c.args.reader.now) true (string_bytes c.push_device.new.out) (string_bytes c.step.new.out) one.after (sym c.if-branch.true ∙ one.goes) one.value
+    ∙ step_text m n x c.args.reader.now true (string_bytes c.push_device.new.out) (string_bytes c.step.new.out) one.after (sym c.if-branch.true ∙ one.goes) one.value
     ∙ headed (string_bytes c.args.out.now) (string_bytes c.push_device.new.out) _ _ _ c.in_ok-push_device.ensures c.number.ensures
 
 pub returns-else-branch : goal.returns-else-branch
@@ -31,5 +30,5 @@ returns-else-branch g c =
     let x : ℕ × Item = (c.args.first.offset, item c.args.first.event) in
     let one = c.in_ok-step.ensures in
     sym (append-nil (string_bytes c.step.new.out))
-    ∙ step_text m n x (ahead c.args.reader.now) false (string_bytes c.push_device.new.out) (string_bytes c.step.new.out) one.after (sym c.if-branch.false ∙ one.goes) one.value
+    ∙ step_text m n x c.args.reader.now false (string_bytes c.push_device.new.out) (string_bytes c.step.new.out) one.after (sym c.if-branch.false ∙ one.goes) one.value
     ∙ headed (string_bytes c.args.out.now) (string_bytes c.push_device.new.out) _ _ _ c.in_ok-push_device.ensures c.number.ensures
