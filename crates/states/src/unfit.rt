@@ -2,15 +2,15 @@
 ghost use Rattle.std.specs.Prelude.{◌≡◌};
 ghost use Rattle.states.specs.Fit.{unfit_number};
 
-/// Why a table is not fit.
+/// Why a table is not fit, by the number of the refusal.
 #[derive(Clone, Copy, Debug, PartialEq, Eq)]
 pub enum Unfit {
     /// Fewer than two states, or more than sixteen.
-    StateCount,
+    StateCount = 12,
     /// A number above its maximum.
-    Number,
+    Number = 13,
     /// State 0 has a wake energy or a latency, or a state is not deeper than the one before it.
-    Order,
+    Order = 14,
 }
 
 impl Unfit {
@@ -18,10 +18,6 @@ impl Unfit {
     pub fn number(self) -> u8
         ensures { result ≡ unfit_number self }
     {
-        match self {
-            Unfit::StateCount => 12,
-            Unfit::Number => 13,
-            Unfit::Order => 14,
-        }
+        self as u8
     }
 }
