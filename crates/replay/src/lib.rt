@@ -3,6 +3,7 @@
 
 mod attach;
 mod lines;
+mod reported;
 mod run;
 mod said;
 
@@ -11,6 +12,7 @@ ghost use Rattle.replay.specs.Runs.{report_of, Lawful};
 
 use crate::attach::work_trace;
 use crate::lines::push_stop;
+use crate::reported::Report;
 use std::alloc::{AllocError, Global};
 use traces::reader::Reader;
 
@@ -21,15 +23,19 @@ pub fn report(heap: Global, trace: &[u8]) -> Result<String, AllocError>
     ensures value { IfOk result (λ text. string_bytes text ≡ report_of trace.now) }
     ensures laws { Lawful trace.now }
 {
-    let mut out = String::new(heap);
     match Reader::new(trace) {
-        Ok(mut reader) => {
-            work_trace(&mut out, &mut reader)?;
-            Ok(out)
+        Ok(reader) => {
+            let mut report = Report {
+                reader,
+                text: String::new(heap),
+            };
+            work_trace(&mut report)?;
+            Ok(report.text)
         }
         Err(refusal) => {
-            push_stop(&mut out, refusal.place, refusal.fault.number())?;
-            Ok(out)
+            let mut text = String::new(heap);
+            push_stop(&mut text, refusal.place, refusal.fault.number())?;
+            Ok(text)
         }
     }
 }

@@ -3,12 +3,12 @@ ghost use Rattle.std.specs.Prelude.{◌≡◌, true};
 ghost use Rattle.replay.specs.Leased.{is_leased};
 
 use crate::lines::{push_device, push_end, push_said, push_stop, push_total};
+use crate::reported::Report;
 use crate::said::{Halt, Said};
 use devices::Device;
 use manager::{Lease, Manager, Refusal, Unattached};
 use std::alloc::AllocError;
 use traces::event::{Event, Record};
-use traces::reader::Reader;
 
 /// A manager, and the lease that is out.
 pub struct Run<D> {
@@ -153,20 +153,20 @@ impl<D: Device + Drop> Run<D> {
     }
 
     /// Reads and works the next record, or writes how the run ends. Answers whether it goes on.
-    fn advance(&mut self, out: &mut String, reader: &mut Reader<'_>) -> Result<bool, AllocError>
-        ensures moves { IfOk result (λ on. on ≡ true → length reader.new.records < length reader.old.records) }
-        ensures value { IfOk result (λ on. string_bytes out.new ++ (if on then lines.written (runs.run_on (stands D.Device self.new) reader.new) else []) ≡ string_bytes out.old ++ lines.written (runs.run_on (stands D.Device self.old) reader.old)) }
+    fn advance(&mut self, report: &mut Report<'_>) -> Result<bool, AllocError>
+        ensures moves { IfOk result (λ on. on ≡ true → length report.new.reader.records < length report.old.reader.records) }
+        ensures value { IfOk result (λ on. string_bytes report.new.text ++ (if on then lines.written (runs.run_on (stands D.Device self.new) report.new.reader) else []) ≡ string_bytes report.old.text ++ lines.written (runs.run_on (stands D.Device self.old) report.old.reader)) }
     {
-        match reader.next() {
+        match report.reader.next() {
             Ok(handed) => match handed {
-                Some(next) => self.step(out, next),
+                Some(next) => self.step(&mut report.text, next),
                 None => {
-                    self.close(out)?;
+                    self.close(&mut report.text)?;
                     Ok(false)
                 }
             },
             Err(refusal) => {
-                push_stop(out, refusal.place, refusal.fault.number())?;
+                push_stop(&mut report.text, refusal.place, refusal.fault.number())?;
                 Ok(false)
             }
         }
@@ -175,16 +175,15 @@ impl<D: Device + Drop> Run<D> {
     /// Writes the line of the device, and works a record and all that follow it.
     pub(crate) fn follow(
         &mut self,
-        out: &mut String,
+        report: &mut Report<'_>,
         first: Record<'_>,
-        reader: &mut Reader<'_>,
     ) -> Result<(), AllocError>
         requires { Proper (layout.item first.event) }
-        ensures { OnOk result (string_bytes out.new ≡ string_bytes out.old ++ lines.written (lines.device (stands D.Device self.old).number ∷ runs.run (stands D.Device self.old) ((first.entry.offset, layout.item first.entry.event) ∷ reader.old.records) reader.old.ending)) }
+        ensures { OnOk result (string_bytes report.new.text ≡ string_bytes report.old.text ++ lines.written (lines.device (stands D.Device self.old).number ∷ runs.run (stands D.Device self.old) ((first.entry.offset, layout.item first.entry.event) ∷ report.old.reader.records) report.old.reader.ending)) }
     {
-        push_device(out, self.manager.number())?;
-        if self.step(out, first)? {
-            while self.advance(out, reader)? {}
+        push_device(&mut report.text, self.manager.number())?;
+        if self.step(&mut report.text, first)? {
+            while self.advance(report)? {}
         }
         Ok(())
     }

@@ -21,7 +21,7 @@ returns-in_ok-work_trace-in-Ok c =
     record {
       value =
           c.in_ok-work_trace-in-Ok.ensures
-          ∙ ap (λ (s : List ℕ). s ++ written (lines_for c.in-Ok.reader)) c.new-out.ensures.bytes
+          ∙ ap (λ (s : List ℕ). s ++ written (lines_for c.in-Ok.reader)) c.new-in-Ok.ensures.bytes
           ∙ ap (λ (r : Reading). written (lines_for r)) c.in-Ok.ensures;
       laws = lawful c.args.trace.now;
     }
@@ -33,7 +33,7 @@ returns-in_ok-push_stop-in-Err c =
     record {
       value =
           c.in_ok-push_stop-in-Err.ensures
-          ∙ ap (λ (s : List ℕ). s ++ written (lines.stop place c.number.result ∷ [])) c.new-out.ensures.bytes
+          ∙ ap (λ (s : List ℕ). s ++ written (lines.stop place c.number.result ∷ [])) c.new-text.ensures.bytes
           ∙ ap (λ (k : ℕ). written (lines.stop place k ∷ [])) c.number.ensures
           ∙ ap (λ (r : Reading). written (lines_for r)) (sym c.in-Err.ensures);
       laws = lawful c.args.trace.now;

@@ -21,8 +21,8 @@ returns-in-Some g c =
       moves = IfOk-weaker c.step.result _ _ (λ on _ _. moves) c.step.ensures.goes;
       value =
           made_both c.step.result _ _ _
-          (λ on goes said. step_text m n x rest on (string_bytes c.args.out.now) (string_bytes c.step.new.out) c.step.ensures.after goes said
-          ∙ ap (λ (r : Reading). string_bytes c.args.out.now ++ written (run_on m r)) (sym is))
+          (λ on goes said. step_text m n x rest on (string_bytes c.args.report.now.text) (string_bytes c.step.new.out) c.step.ensures.after goes said
+          ∙ ap (λ (r : Reading). string_bytes c.args.report.now.text ++ written (run_on m r)) (sym is))
           c.step.ensures.goes c.step.ensures.value;
     }
 
@@ -32,14 +32,14 @@ returns-in_ok-close-in-None g c =
     let is = rw c.in-None.is at c.in-Ok.ensures.value in
     record {
       moves = λ e. let z : ◌≡◌ {A = ℕ} 0 1 = cc in absurd (omega arith);
-      value = end_text m c.args.reader.now whole (string_bytes c.args.out.now) (string_bytes c.close.new.out) [] is c.in_ok-close-in-None.ensures;
+      value = end_text m c.args.report.now.reader whole (string_bytes c.args.report.now.text) (string_bytes c.close.new.out) [] is c.in_ok-close-in-None.ensures;
     }
 
 pub returns-in_ok-push_stop-in-Err : goal.returns-in_ok-push_stop-in-Err
 returns-in_ok-push_stop-in-Err g c =
     let m = stands (record { table = g.D.StateTable.table; status = g.D.Device.status }) c.args.self.now in
-    let before = string_bytes c.args.out.now in
+    let before = string_bytes c.args.report.now.text in
     record {
       moves = λ e. let z : ◌≡◌ {A = ℕ} 0 1 = cc in absurd (omega arith);
-      value = end_text m c.args.reader.now (stop c.in-Err.refusal) (string_bytes c.args.out.now) (string_bytes c.push_stop.new.out) [] c.in-Err.ensures.value (c.in_ok-push_stop-in-Err.ensures ∙ ap (λ (k : ℕ). before ++ written (lines.stop c.in-Err.refusal.place k ∷ [])) c.number.ensures);
+      value = end_text m c.args.report.now.reader (stop c.in-Err.refusal) (string_bytes c.args.report.now.text) (string_bytes c.push_stop.new.out) [] c.in-Err.ensures.value (c.in_ok-push_stop-in-Err.ensures ∙ ap (λ (k : ℕ). before ++ written (lines.stop c.in-Err.refusal.place k ∷ [])) c.number.ensures);
     }

@@ -17,11 +17,11 @@ returns-else-branch-2 g c =
     let x : ℕ × Item = (c.args.first.offset, item c.args.first.event) in
     let one = c.in_ok-step.ensures in
     let all = c.in_ok-advance.ensures.value in
-    sym (append-nil (string_bytes c.advance.new.out))
-    ∙ ap (λ (on : Bool). string_bytes c.advance.new.out ++ cond on (written (run_on (stands (record { table = g.D.StateTable.table; status = g.D.Device.status }) c.advance.new.self) c.advance.new.reader)) []) (sym c.if-branch-2.false)
+    sym (append-nil (string_bytes c.advance.new.report.text))
+    ∙ ap (λ (on : Bool). string_bytes c.advance.new.report.text ++ cond on (written (run_on (stands (record { table = g.D.StateTable.table; status = g.D.Device.status }) c.advance.new.self) c.advance.new.report.reader)) []) (sym c.if-branch-2.false)
     ∙ all ∙ c.loop.invariant
-    ∙ step_text m n x c.args.reader.now true (string_bytes c.push_device.new.out) (string_bytes c.step.new.out) one.after (sym c.if-branch.true ∙ one.goes) one.value
-    ∙ headed (string_bytes c.args.out.now) (string_bytes c.push_device.new.out) _ _ _ c.in_ok-push_device.ensures c.number.ensures
+    ∙ step_text m n x c.args.report.now.reader true (string_bytes c.push_device.new.out) (string_bytes c.step.new.out) one.after (sym c.if-branch.true ∙ one.goes) one.value
+    ∙ headed (string_bytes c.args.report.now.text) (string_bytes c.push_device.new.out) _ _ _ c.in_ok-push_device.ensures c.number.ensures
 
 pub returns-else-branch : goal.returns-else-branch
 returns-else-branch g c =
@@ -30,5 +30,5 @@ returns-else-branch g c =
     let x : ℕ × Item = (c.args.first.offset, item c.args.first.event) in
     let one = c.in_ok-step.ensures in
     sym (append-nil (string_bytes c.step.new.out))
-    ∙ step_text m n x c.args.reader.now false (string_bytes c.push_device.new.out) (string_bytes c.step.new.out) one.after (sym c.if-branch.false ∙ one.goes) one.value
-    ∙ headed (string_bytes c.args.out.now) (string_bytes c.push_device.new.out) _ _ _ c.in_ok-push_device.ensures c.number.ensures
+    ∙ step_text m n x c.args.report.now.reader false (string_bytes c.push_device.new.out) (string_bytes c.step.new.out) one.after (sym c.if-branch.false ∙ one.goes) one.value
+    ∙ headed (string_bytes c.args.report.now.text) (string_bytes c.push_device.new.out) _ _ _ c.in_ok-push_device.ensures c.number.ensures
