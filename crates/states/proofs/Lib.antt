@@ -2,7 +2,6 @@ pub mod Rows
 pub mod Minimum
 pub mod Least
 pub mod Search
-pub mod Tested
 pub mod Words
 pub mod Fitness
 pub mod Shape

@@ -6,7 +6,7 @@ use Rattle.states.specs.Fit.{Fit}
 use Rattle.states.specs.Overtake.{Overtakes, Leads}
 use Rattle.states.proofs.Rows.{row_at-get_or}
 use Rattle.states.proofs.Shape.{shape}
-use Rattle.states.proofs.Overtaking.{leads_none, leads_more}
+use Rattle.states.proofs.Overtaking.{leads_more}
 use Rattle.states.proofs.fit_rows.leads_from.Goals as goal
 
 -- two rows of a fit table, as the code reads them
@@ -37,9 +37,6 @@ overtakes-requires c =
 -- the tick that was found, for the rows of the table
 overtaking : (rows : List Row) (state deeper k r : ℕ) → deeper ≡ state → get_or (take deeper rows) k no_row ≡ get_or rows k no_row → Overtakes (get_or rows deeper no_row) (get_or (take deeper rows) k no_row) r → Overtakes (get_or rows state no_row) (get_or rows k no_row) r
 overtaking rows state deeper k r is above o = subst (λ d. Overtakes (get_or rows d no_row) (get_or rows k no_row) r) is (subst (λ a. Overtakes (get_or rows deeper no_row) a r) above o)
-
-pub loop-above-init : goal.loop-above-init
-loop-above-init c = (leads_none c.args.rows.now c.args.state, omega arith)
 
 pub loop-above-preserved : goal.loop-above-preserved
 loop-above-preserved c =
