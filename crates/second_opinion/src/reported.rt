@@ -69,7 +69,7 @@ impl Writer {
         } else {
             random.place(17)
         };
-        self.add(Kind::Request, number, &note[..length.min(17)])
+        self.add(Kind::Request, number, &note[..length])
     }
 
     /// Adds a record that may follow, rarely one for another number, out of order or of an unknown kind.

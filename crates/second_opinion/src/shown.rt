@@ -105,7 +105,7 @@ pub(crate) fn million_gaps(bench: &mut Bench) -> Result<(), AllocError> {
         };
         for step in [Step::Request, release] {
             steps.push(step)?;
-            answers.push(manager.take(step)?)?;
+            answers.push(early::outcome(manager.take(step))?)?;
         }
     }
     twin::compare_answers(bench, MANAGER, device, steps.as_slice(), answers.as_slice())

@@ -92,7 +92,7 @@ impl Tried {
     }
 
     /// Counts what a manager answered to a call.
-    pub(crate) fn note_answer(&mut self, answer: Result<Answer, Refusal>) {
+    pub(crate) fn note_answer(&mut self, answer: &Result<Answer, Refusal>) {
         match answer {
             Ok(Answer::Closed { gap, .. }) if gap.stuck => more(&mut self.stuck_gaps),
             Ok(Answer::Closed { .. }) => more(&mut self.clean_gaps),

@@ -167,7 +167,7 @@ impl<D: Device + Drop> Twin<D> {
             let call = calls::any_call(&mut bench.random, &manager, number);
             for step in [call, Step::Figures] {
                 steps.push(step)?;
-                answers.push(manager.take(step)?)?;
+                answers.push(early::outcome(manager.take(step))?)?;
             }
         }
         compare_answers(bench, number, device, steps.as_slice(), answers.as_slice())
@@ -188,7 +188,7 @@ pub(crate) fn compare_answers<D: Device + Drop>(
     tried.answers.note(replies.len() == answers.len());
     for (reply, answer) in replies.iter().zip(answers.iter()) {
         tried.answers.note(Answer::try_from(*reply) == *answer);
-        tried.note_answer(*answer);
+        tried.note_answer(answer);
     }
     Ok(())
 }

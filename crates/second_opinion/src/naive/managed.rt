@@ -2,7 +2,7 @@
 use crate::naive::answer::{Answer, Gap, Refusal};
 use crate::naive::device::Device;
 use crate::naive::early::Early;
-use crate::naive::{early, table};
+use crate::naive::table;
 use manager::Step;
 use samples::Figures;
 use std::alloc::{AllocError, Global};
@@ -171,8 +171,8 @@ impl Manager {
         }
     }
 
-    /// Answers one call.
-    fn answer(&mut self, step: Step) -> Result<Answer, Early<Refusal>> {
+    /// Works one call.
+    pub(crate) fn take(&mut self, step: Step) -> Result<Answer, Early<Refusal>> {
         if let Step::Figures = step {
             return Ok(Answer::Shown(self.figures()));
         }
@@ -184,11 +184,6 @@ impl Manager {
             Step::Report { number, code } => Ok(self.report(number, code)?),
             Step::Figures => Ok(Answer::Shown(self.figures())),
         }
-    }
-
-    /// Works one call.
-    pub(crate) fn take(&mut self, step: Step) -> Result<Result<Answer, Refusal>, AllocError> {
-        early::outcome(self.answer(step))
     }
 
     /// The figures, summed up from the lists.

@@ -81,7 +81,7 @@ impl Run {
 
     /// Makes a call that prints nothing.
     fn call(&mut self, step: Step) -> Result<(), Early<Refusal>> {
-        self.manager.take(step)??;
+        self.manager.take(step)?;
         Ok(())
     }
 
@@ -105,15 +105,14 @@ impl Run {
     /// Works a request, and adds a gap line, or a jam line where a fault holds the device up.
     fn request(&mut self, place: usize, number: u16, note: Note) -> Result<(), Early<Refusal>> {
         self.check_number(number)?;
-        match self.manager.take(Step::Request)? {
-            Err(Refusal { jam: Some(jam), .. }) => {
+        match self.manager.take(Step::Request) {
+            Ok(Answer::Closed { gap, .. }) => writeln!(self.text, "gap {gap} {note}")?,
+            Err(Early::Refused(Refusal { jam: Some(jam), .. })) => {
                 self.jams = self.jams.wrapping_add(1);
                 writeln!(self.text, "jam {place} {jam}")?;
             }
             answer => {
-                if let Answer::Closed { gap, .. } = answer? {
-                    writeln!(self.text, "gap {gap} {note}")?;
-                }
+                answer?;
             }
         }
         Ok(())
