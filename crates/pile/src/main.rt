@@ -2,18 +2,10 @@
 //! Each answer is printed on a line of its own.
 #![tactic(auto)]
 
-use devices::{Device, Fault, Joined, LatencyLimit, Refusal, TableDevice};
+use devices::{Device, Joined, LatencyLimit, Refusal, TableDevice};
+use samples::{FaultText, MODEM, RECEIVER};
 use states::StateTable;
 use std::io;
-
-/// The rows of a modem: powers 10, 4, 1, wake energies 0, 20, 50 and latencies 0, 2, 9.
-const MODEM: &[u8] = b"\x0a\0\0\0\0\0\0\0\0\0\0\0\
-    \x04\0\0\0\x14\0\0\0\x02\0\0\0\
-    \x01\0\0\0\x32\0\0\0\x09\0\0\0";
-
-/// The rows of a receiver: powers 1, 0, wake energies 0, 5 and latencies 0, 0.
-const RECEIVER: &[u8] = b"\x01\0\0\0\0\0\0\0\0\0\0\0\
-    \0\0\0\0\x05\0\0\0\0\0\0\0";
 
 /// Prints what a table tells of each of its states.
 fn show_table(rt: &HostRuntime, table: &impl StateTable) -> io::Result<()> {
@@ -28,27 +20,23 @@ fn show_table(rt: &HostRuntime, table: &impl StateTable) -> io::Result<()> {
     Ok(())
 }
 
-/// Prints the fault that a refusal names.
-fn show_fault(rt: &HostRuntime, fault: Fault) -> io::Result<()> {
-    let Fault {
-        number,
-        code,
-        depth,
-        from,
-        to,
-    } = fault;
-    println!(rt; "refused 43 {number} {code} {depth} {from} {to}")
+/// Prints a refusal, with the fault that it names.
+fn show_refusal(rt: &HostRuntime, refusal: Refusal) -> io::Result<()> {
+    let number = refusal.number();
+    match refusal {
+        Refusal::Jammed(fault) => {
+            let fault = FaultText(fault);
+            println!(rt; "refused {number} {fault}")
+        }
+        _ => println!(rt; "refused {number}"),
+    }
 }
 
 /// Prints a command's answer.
 fn show_answer(rt: &HostRuntime, answer: Result<u32, Refusal>) -> io::Result<()> {
     match answer {
         Ok(energy) => println!(rt; "energy {energy}"),
-        Err(Refusal::Jammed(fault)) => show_fault(rt, fault),
-        Err(refusal) => {
-            let number = refusal.number();
-            println!(rt; "refused {number}")
-        }
+        Err(refusal) => show_refusal(rt, refusal),
     }
 }
 
@@ -98,15 +86,12 @@ fn main(rt: HostRuntime) -> io::Result<()> {
     if let (Ok(modem), Ok(receiver)) = (TableDevice::new(7, MODEM), TableDevice::new(8, RECEIVER)) {
         show_pile(&rt, modem, receiver)?;
     }
-    match TableDevice::new(7, MODEM) {
-        Ok(modem) => show_hidden(&rt, modem)?,
-        Err(_) => {}
+    if let Ok(modem) = TableDevice::new(7, MODEM) {
+        show_hidden(&rt, modem)?;
     }
-    match TableDevice::new(7, &MODEM[0..13]) {
-        Ok(_) => Ok(()),
-        Err(refusal) => {
-            let number = refusal.number();
-            println!(rt; "refused {number}")
-        }
+    if let Err(refusal) = TableDevice::new(7, &MODEM[0..13]) {
+        let number = refusal.number();
+        println!(rt; "refused {number}")?;
     }
+    Ok(())
 }

@@ -1,110 +1,143 @@
 //! Pseudo-random piles of devices and lists of calls.
 use manager::Step;
+use samples::Random;
 use std::alloc::{AllocError, Global};
 
-/// A xorshift generator.
-#[derive(Drop)]
-pub struct Random {
-    state: u64,
+/// Which devices are piled.
+#[derive(Clone, Copy, Debug, PartialEq, Eq)]
+pub enum Pile {
+    /// A table device.
+    Table,
+    /// A limit over a table device.
+    Limit,
+    /// Two table devices behind a rail.
+    Pair,
+    /// A limit over two table devices behind a rail.
+    LimitOnPair,
+    /// A limit over a table device, and another table device, behind a rail.
+    PairOfLimit,
 }
 
-impl Random {
-    pub(crate) fn new(start: u64) -> Random {
-        Random { state: start | 1 }
-    }
-
-    /// The next number below a bound; 0 for bound 0.
-    pub(crate) fn below(&mut self, bound: u64) -> u64 {
-        let mut x = self.state;
-        x ^= x.wrapping_shl(13);
-        x ^= x.wrapping_shr(7);
-        x ^= x.wrapping_shl(17);
-        self.state = x;
-        if bound == 0 {
-            0
-        } else {
-            x.wrapping_shr(11) % bound
-        }
-    }
+/// What a rail draws: in each state but the deepest, and to wake from that.
+#[derive(Clone, Copy, Debug, PartialEq, Eq)]
+pub struct Rail {
+    pub power: u32,
+    pub energy: u32,
 }
 
 /// A pile: which devices, over which rows.
-#[derive(Drop)]
+#[derive(Debug, Drop)]
 pub struct Shape {
-    pub pile: u8,
+    pub pile: Pile,
     pub first: Vec<u8>,
     pub second: Vec<u8>,
     pub limit: u32,
-    pub rail_power: u32,
-    pub rail_energy: u32,
+    pub rail: Rail,
 }
 
-fn push_number(bytes: &mut Vec<u8>, number: u64) -> Result<(), AllocError> {
-    let [a, b, c, d] = ((number & 0xffff_ffff) as u32).to_le_bytes();
-    bytes.push(a)?;
-    bytes.push(b)?;
-    bytes.push(c)?;
-    bytes.push(d)?;
-    Ok(())
+/// A row of a table.
+#[derive(Clone, Copy, Debug, PartialEq, Eq)]
+struct Row {
+    power: u32,
+    wake: u32,
+    latency: u32,
+}
+
+impl Row {
+    /// Adds the bytes of the row, rarely with a number that makes the table unfit.
+    fn push_to(self, bytes: &mut Vec<u8>, random: &mut Random) -> Result<(), AllocError> {
+        let power = if random.wide_below(200) == 0 {
+            1_000_001
+        } else {
+            self.power
+        };
+        let wake = if random.wide_below(200) == 0 {
+            0
+        } else {
+            self.wake
+        };
+        bytes.extend_from_slice(&power.to_le_bytes())?;
+        bytes.extend_from_slice(&wake.to_le_bytes())?;
+        bytes.extend_from_slice(&self.latency.to_le_bytes())
+    }
+
+    /// The row of a state one deeper, which mostly makes costs level.
+    fn deeper(self, random: &mut Random) -> Row {
+        let fall = random.wide_below(4).wrapping_add(1);
+        let rise = random.wide_below(20).wrapping_add(1);
+        Row {
+            power: self.power.wrapping_sub(fall),
+            wake: self.wake.wrapping_add(rise),
+            latency: self.latency.wrapping_add(random.wide_below(4)),
+        }
+    }
 }
 
 /// The rows of a table that is mostly fit, with level costs likely.
 fn rows(heap: Global, random: &mut Random) -> Result<Vec<u8>, AllocError> {
     let mut bytes = Vec::new(heap);
-    let count = random.below(6).wrapping_add(1);
-    let mut power = random.below(5).wrapping_add(count.wrapping_mul(5));
-    let mut wake = 0u64;
-    let mut latency = 0u64;
-    for state in 0..count {
-        if state > 0 {
-            power = power.wrapping_sub(random.below(4).wrapping_add(1));
-            wake = wake.wrapping_add(random.below(20).wrapping_add(1));
-            latency = latency.wrapping_add(random.below(4));
-        }
-        push_number(
-            &mut bytes,
-            if random.below(200) == 0 {
-                1_000_001
-            } else {
-                power
-            },
-        )?;
-        push_number(&mut bytes, if random.below(200) == 0 { 0 } else { wake })?;
-        push_number(&mut bytes, latency)?;
+    let count = random.wide_below(6).wrapping_add(1);
+    let mut row = Row {
+        power: random.wide_below(5).wrapping_add(count.wrapping_mul(5)),
+        wake: 0,
+        latency: 0,
+    };
+    row.push_to(&mut bytes, random)?;
+    for _ in 1..count {
+        row = row.deeper(random);
+        row.push_to(&mut bytes, random)?;
     }
     Ok(bytes)
 }
 
+impl Pile {
+    /// Any of the five.
+    fn any(random: &mut Random) -> Pile {
+        match random.wide_below(5) {
+            0 => Pile::Table,
+            1 => Pile::Limit,
+            2 => Pile::Pair,
+            3 => Pile::LimitOnPair,
+            _ => Pile::PairOfLimit,
+        }
+    }
+
+    /// Whether there are two table devices.
+    pub(crate) fn is_pair(self) -> bool {
+        match self {
+            Pile::Table | Pile::Limit => false,
+            Pile::Pair | Pile::LimitOnPair | Pile::PairOfLimit => true,
+        }
+    }
+}
+
 impl Shape {
+    /// A pseudo-random pile.
     pub(crate) fn any(heap: Global, random: &mut Random) -> Result<Shape, AllocError> {
-        let pile = (random.below(5) & 0xff) as u8;
-        let first = rows(heap, random)?;
-        let second = rows(heap, random)?;
-        let limit = (random.below(10) & 0xffff) as u32;
-        let rail_power = (random.below(4) & 0xffff) as u32;
-        let rail_energy = (random.below(9) & 0xffff) as u32;
         Ok(Shape {
-            pile,
-            first,
-            second,
-            limit,
-            rail_power,
-            rail_energy,
+            pile: Pile::any(random),
+            first: rows(heap, random)?,
+            second: rows(heap, random)?,
+            limit: random.wide_below(10),
+            rail: Rail {
+                power: random.wide_below(4),
+                energy: random.wide_below(9),
+            },
         })
     }
 }
 
 /// A call: mostly ticks, and now and then wrong numbers.
 fn step(random: &mut Random) -> Step {
-    match random.below(20) {
+    match random.wide_below(20) {
         0 | 1 => Step::Request,
         2 | 3 => Step::Release {
-            manager: if random.below(10) == 0 { 4 } else { 3 },
-            count: (random.below(5) & 0xff) as u32,
+            manager: if random.wide_below(10) == 0 { 4 } else { 3 },
+            count: random.wide_below(5),
         },
         4 | 5 => Step::Report {
-            number: (random.below(3).wrapping_add(7) & 0xff) as u16,
-            code: if random.below(2) == 0 { 0 } else { 9 },
+            number: random.wide_below(3) as u16 + 7,
+            code: if random.wide_below(2) == 0 { 0 } else { 9 },
         },
         6 => Step::Figures,
         _ => Step::Tick,
@@ -114,7 +147,7 @@ fn step(random: &mut Random) -> Step {
 /// A list of calls.
 pub(crate) fn steps(heap: Global, random: &mut Random) -> Result<Vec<Step>, AllocError> {
     let mut steps = Vec::new(heap);
-    let count = random.below(40);
+    let count = random.wide_below(40);
     for _ in 0..count {
         steps.push(step(random))?;
     }

@@ -1,59 +1,31 @@
 //! The naive implementation: the rows of the whole pile are worked out once, least costs are found by trying every
 //! state, a gap is the list of its ticks, and the figures are summed up from the closed gaps when they are asked for.
-use crate::cases::Shape;
+//! It is a second opinion, so it shares no code with the library, nor with the naive code of `second_opinion`.
+use crate::cases::{Pile, Rail, Shape};
 use manager::Step;
+use samples::Figures;
 use std::alloc::{AllocError, Global};
 
-/// Plain figures.
-#[derive(Clone, Copy, PartialEq, Eq)]
-pub struct Figures {
-    pub clean: u64,
-    pub floor: u64,
-    pub stuck: u64,
-    pub busy: u64,
-    pub pending: u64,
-    pub length: u32,
-    pub mark: bool,
-    pub ticks: u32,
-    pub gaps: u32,
-    pub held: [u32; 16],
-    pub wakes: [u32; 16],
-}
-
-impl Figures {
-    pub(crate) fn empty() -> Figures {
-        Figures {
-            clean: 0,
-            floor: 0,
-            stuck: 0,
-            busy: 0,
-            pending: 0,
-            length: 0,
-            mark: false,
-            ticks: 0,
-            gaps: 0,
-            held: [0; 16],
-            wakes: [0; 16],
-        }
-    }
-}
+/// The numbers of the two parts.
+pub const PARTS: [u16; 2] = [7, 8];
 
 /// Power, wake energy and latency of a state.
-#[derive(Clone, Copy)]
+#[derive(Clone, Copy, Debug, Default, PartialEq, Eq)]
 struct Level {
     power: u64,
     wake: u64,
     latency: u64,
 }
 
-const NOTHING: Level = Level {
-    power: 0,
-    wake: 0,
-    latency: 0,
-};
+/// A basic device of the pile.
+#[derive(Clone, Copy, Debug, PartialEq, Eq)]
+struct Part {
+    number: u16,
+    code: u32,
+}
 
 /// A closed gap.
-#[derive(Clone, Copy)]
+#[derive(Clone, Copy, Debug, PartialEq, Eq)]
 struct Gap {
     energy: u64,
     floor: u64,
@@ -61,14 +33,19 @@ struct Gap {
     from: usize,
 }
 
+/// How many gaps were closed.
+#[derive(Clone, Copy, Debug, Default, PartialEq, Eq)]
+pub struct ClosedGaps {
+    pub clean: usize,
+    pub stuck: usize,
+}
+
 /// A manager over one pile.
-#[derive(Drop)]
+#[derive(Debug, Drop)]
 pub struct Plain {
     number: u16,
     levels: Vec<Level>,
-    pair: bool,
-    first_code: u32,
-    second_code: u32,
+    parts: Vec<Part>,
     shut: bool,
     busy: bool,
     state: usize,
@@ -79,147 +56,137 @@ pub struct Plain {
     idle_ticks: Vec<usize>,
 }
 
-fn number_at(bytes: &Vec<u8>, place: usize) -> u64 {
-    let mut number = 0u64;
-    for i in 0usize..4 {
-        let byte = bytes
-            .get(place.wrapping_add(3usize.wrapping_sub(i)))
-            .copied()
-            .unwrap_or(0);
-        number = number.wrapping_mul(256).wrapping_add(u64::from(byte));
+/// The number in some bytes, the lowest first.
+fn number_of(bytes: &[u8]) -> u64 {
+    bytes.iter().rev().fold(0u64, |number, byte| {
+        number.wrapping_mul(256).wrapping_add(u64::from(*byte))
+    })
+}
+
+/// The level of a row of 12 bytes.
+fn level_of(row: &[u8]) -> Level {
+    let mut numbers = row.chunks_exact(4).map(number_of);
+    Level {
+        power: numbers.next().unwrap_or(0),
+        wake: numbers.next().unwrap_or(0),
+        latency: numbers.next().unwrap_or(0),
     }
-    number
 }
 
 /// The levels of one table.
-fn levels_of(heap: Global, bytes: &Vec<u8>) -> Result<Vec<Level>, AllocError> {
-    let mut levels = Vec::new(heap);
-    for state in 0..bytes.len() / 12 {
-        let place = state.wrapping_mul(12);
-        levels.push(Level {
-            power: number_at(bytes, place),
-            wake: number_at(bytes, place.wrapping_add(4)),
-            latency: number_at(bytes, place.wrapping_add(8)),
-        })?;
-    }
-    Ok(levels)
+fn levels_of(heap: Global, rows: &[u8]) -> Result<Vec<Level>, AllocError> {
+    rows.chunks_exact(12).map(level_of).collect(heap)
 }
 
 /// A level; beyond the last that of the last.
-fn level_at(levels: &Vec<Level>, state: usize) -> Level {
-    let last = levels.len().saturating_sub(1);
-    levels.get(state.min(last)).copied().unwrap_or(NOTHING)
+fn level_at(levels: &[Level], state: usize) -> Level {
+    levels
+        .get(state)
+        .or(levels.last())
+        .copied()
+        .unwrap_or_default()
 }
 
 /// The levels up to the first slow state.
-fn limited(heap: Global, levels: &Vec<Level>, limit: u32) -> Result<Vec<Level>, AllocError> {
-    let mut shown = Vec::new(heap);
-    let mut slow = false;
-    for (state, level) in levels.iter().enumerate() {
-        if state > 0 && level.latency > u64::from(limit) {
-            slow = true;
-        }
-        if !slow {
-            shown.push(*level)?;
-        }
-    }
-    Ok(shown)
+fn limited(heap: Global, levels: &[Level], limit: u32) -> Result<Vec<Level>, AllocError> {
+    levels
+        .iter()
+        .enumerate()
+        .take_while(|(state, level)| *state == 0 || level.latency <= u64::from(limit))
+        .map(|(_, level)| *level)
+        .collect(heap)
 }
 
 /// Two tables behind a rail.
 fn joined(
     heap: Global,
-    first: &Vec<Level>,
-    second: &Vec<Level>,
-    shape: &Shape,
+    first: &[Level],
+    second: &[Level],
+    rail: Rail,
 ) -> Result<Vec<Level>, AllocError> {
-    let mut levels = Vec::new(heap);
     let count = first.len().max(second.len());
-    for state in 0..count {
-        let a = level_at(first, state);
-        let b = level_at(second, state);
-        let deepest = state.wrapping_add(1) == count;
-        let power = if deepest {
-            0
-        } else {
-            u64::from(shape.rail_power)
-        };
-        let wake = if deepest {
-            u64::from(shape.rail_energy)
-        } else {
-            0
-        };
-        levels.push(Level {
-            power: a
-                .power
-                .wrapping_add(b.power)
-                .wrapping_add(power)
-                .min(4_294_967_295),
-            wake: a
-                .wake
-                .wrapping_add(b.wake)
-                .wrapping_add(wake)
-                .min(4_294_967_295),
-            latency: a.latency.max(b.latency),
-        })?;
-    }
-    Ok(levels)
+    let most = u64::from(u32::MAX);
+    (0..count)
+        .map(|state| {
+            let a = level_at(first, state);
+            let b = level_at(second, state);
+            let (power, wake) = if state.wrapping_add(1) == count {
+                (0, u64::from(rail.energy))
+            } else {
+                (u64::from(rail.power), 0)
+            };
+            Level {
+                power: a.power.wrapping_add(b.power).wrapping_add(power).min(most),
+                wake: a.wake.wrapping_add(b.wake).wrapping_add(wake).min(most),
+                latency: a.latency.max(b.latency),
+            }
+        })
+        .collect(heap)
 }
 
 /// The levels of a pile.
 fn pile_levels(heap: Global, shape: &Shape) -> Result<Vec<Level>, AllocError> {
-    let first = levels_of(heap, &shape.first)?;
-    let second = levels_of(heap, &shape.second)?;
+    let first = levels_of(heap, shape.first.as_slice())?;
+    let second = levels_of(heap, shape.second.as_slice())?;
     match shape.pile {
-        0 => Ok(first),
-        1 => limited(heap, &first, shape.limit),
-        2 => joined(heap, &first, &second, shape),
-        3 => {
-            let both = joined(heap, &first, &second, shape)?;
-            limited(heap, &both, shape.limit)
+        Pile::Table => Ok(first),
+        Pile::Limit => limited(heap, first.as_slice(), shape.limit),
+        Pile::Pair => joined(heap, first.as_slice(), second.as_slice(), shape.rail),
+        Pile::LimitOnPair => {
+            let both = joined(heap, first.as_slice(), second.as_slice(), shape.rail)?;
+            limited(heap, both.as_slice(), shape.limit)
         }
-        _ => {
-            let quick = limited(heap, &first, shape.limit)?;
-            joined(heap, &quick, &second, shape)
+        Pile::PairOfLimit => {
+            let quick = limited(heap, first.as_slice(), shape.limit)?;
+            joined(heap, quick.as_slice(), second.as_slice(), shape.rail)
         }
+    }
+}
+
+impl Level {
+    /// Whether each number is at most its maximum.
+    fn is_within(&self) -> bool {
+        self.power <= 1_000_000 && self.wake <= 1_000_000_000 && self.latency <= 100_000
+    }
+
+    /// Whether the level may stand right below another.
+    fn is_below(&self, above: &Level) -> bool {
+        self.power < above.power && self.wake > above.wake && self.latency >= above.latency
+    }
+
+    /// What so many ticks cost, with the wake-up.
+    fn cost(&self, ticks: u64) -> u64 {
+        self.wake.wrapping_add(self.power.wrapping_mul(ticks))
     }
 }
 
 /// Whether a table is fit, by trying every rule of every row.
-fn is_fit(levels: &Vec<Level>) -> bool {
-    if levels.len() < 2 || levels.len() > 16 {
-        return false;
-    }
-    let mut before = Level {
-        power: 1_000_001,
-        wake: 0,
-        latency: 0,
-    };
-    for (state, level) in levels.iter().enumerate() {
-        if level.power >= before.power || level.wake > 1_000_000_000 || level.latency > 100_000 {
-            return false;
-        }
-        if state == 0 && (level.wake != 0 || level.latency != 0) {
-            return false;
-        }
-        if state > 0 && (level.wake <= before.wake || level.latency < before.latency) {
-            return false;
-        }
-        before = *level;
-    }
-    true
+fn is_fit(levels: &[Level]) -> bool {
+    let awake = level_at(levels, 0);
+    (2..=16).contains(&levels.len())
+        && awake.wake == 0
+        && awake.latency == 0
+        && levels.iter().all(|level| level.is_within())
+        && levels.windows(2).all(|pair| match pair {
+            [above, below] => below.is_below(above),
+            _ => true,
+        })
 }
 
 impl Plain {
+    /// Attaches a manager with a number to a pile.
     pub(crate) fn attach(heap: Global, number: u16, shape: &Shape) -> Result<Plain, AllocError> {
         let levels = pile_levels(heap, shape)?;
-        let shut = !is_fit(&levels);
+        let shut = !is_fit(levels.as_slice());
+        let count = if shape.pile.is_pair() { 2 } else { 1 };
+        let part = |number: &u16| Part {
+            number: *number,
+            code: 0,
+        };
         Ok(Plain {
             number,
             levels,
-            pair: shape.pile > 1,
-            first_code: 0,
-            second_code: 0,
+            parts: PARTS.iter().take(count).map(part).collect(heap)?,
             shut,
             busy: false,
             state: 0,
@@ -237,52 +204,45 @@ impl Plain {
     }
 
     /// How many clean and how many stuck gaps were closed.
-    pub(crate) fn closed_gaps(&self) -> (u32, u32) {
-        let mut clean = 0u32;
-        let mut stuck = 0u32;
-        for gap in self.closed.iter() {
-            if gap.stuck {
-                stuck = stuck.wrapping_add(1);
-            } else {
-                clean = clean.wrapping_add(1);
-            }
+    pub(crate) fn closed_gaps(&self) -> ClosedGaps {
+        ClosedGaps {
+            clean: self.closed.iter().filter(|gap| !gap.stuck).count(),
+            stuck: self.closed.iter().filter(|gap| gap.stuck).count(),
         }
-        (clean, stuck)
     }
 
+    /// Whether some part is faulty.
     fn jammed(&self) -> bool {
-        self.first_code != 0 || self.second_code != 0
+        self.parts.iter().any(|part| part.code != 0)
     }
 
-    fn cost(&self, state: usize, ticks: u64) -> u64 {
-        let level = level_at(&self.levels, state);
-        level.wake.wrapping_add(level.power.wrapping_mul(ticks))
+    /// A level; beyond the deepest that of the deepest.
+    fn level(&self, state: usize) -> Level {
+        level_at(self.levels.as_slice(), state)
     }
 
     /// The first state that no other state undercuts.
     fn best(&self, ticks: u64) -> usize {
-        for state in 0..self.levels.len() {
-            let mut undercut = false;
-            for other in 0..self.levels.len() {
-                if self.cost(other, ticks) < self.cost(state, ticks) {
-                    undercut = true;
-                }
-            }
-            if !undercut {
-                return state;
-            }
-        }
-        0
+        let undercut = |level: &Level| {
+            self.levels
+                .iter()
+                .any(|other| other.cost(ticks) < level.cost(ticks))
+        };
+        self.levels
+            .iter()
+            .position(|level| !undercut(level))
+            .unwrap_or(0)
     }
 
-    fn drawn(&self, ticks: &Vec<usize>) -> u64 {
-        let mut sum = 0u64;
-        for state in ticks.iter() {
-            sum = sum.wrapping_add(level_at(&self.levels, *state).power);
-        }
-        sum
+    /// The power of all the ticks of a list.
+    fn drawn(&self, ticks: &[usize]) -> u64 {
+        ticks
+            .iter()
+            .map(|state| self.level(*state).power)
+            .fold(0u64, |sum, power| sum.wrapping_add(power))
     }
 
+    /// Works a tick.
     fn tick(&mut self) -> Result<(), AllocError> {
         if self.busy {
             self.busy_ticks.push(0)?;
@@ -299,6 +259,7 @@ impl Plain {
         Ok(())
     }
 
+    /// Works a request.
     fn request(&mut self) -> Result<(), AllocError> {
         if self.busy {
             return Ok(());
@@ -311,11 +272,11 @@ impl Plain {
         let floor = if ticks == 0 {
             0
         } else {
-            self.cost(self.best(ticks), ticks)
+            self.level(self.best(ticks)).cost(ticks)
         };
         let energy = self
-            .drawn(&self.gap)
-            .wrapping_add(level_at(&self.levels, self.state).wake);
+            .drawn(self.gap.as_slice())
+            .wrapping_add(self.level(self.state).wake);
         self.closed.push(Gap {
             energy,
             floor,
@@ -329,36 +290,43 @@ impl Plain {
         Ok(())
     }
 
+    /// Works a report.
+    fn report(&mut self, number: u16, code: u32) {
+        for part in self.parts.iter_mut() {
+            if part.number == number {
+                part.code = code;
+            }
+        }
+    }
+
     /// Works one call.
     pub(crate) fn take(&mut self, step: Step) -> Result<(), AllocError> {
         if self.shut {
             return Ok(());
         }
         match step {
-            Step::Tick => self.tick(),
-            Step::Request => self.request(),
+            Step::Tick => self.tick()?,
+            Step::Request => self.request()?,
             Step::Release { manager, count } => {
                 if manager == self.number && u64::from(count) == self.closed.len() as u64 {
                     self.busy = false;
                 }
-                Ok(())
             }
-            Step::Report { number, code } => {
-                if number == 7 {
-                    self.first_code = code;
-                }
-                if number == 8 && self.pair {
-                    self.second_code = code;
-                }
-                Ok(())
-            }
-            Step::Figures => Ok(()),
+            Step::Report { number, code } => self.report(number, code),
+            Step::Figures => {}
         }
+        Ok(())
     }
 
     /// The figures, summed up from what is kept.
     pub(crate) fn figures(&self) -> Figures {
-        let mut figures = Figures::empty();
+        let mut figures = Figures {
+            busy: self.drawn(self.busy_ticks.as_slice()),
+            pending: self.drawn(self.gap.as_slice()),
+            length: (self.gap.len() & 0xffff_ffff) as u32,
+            mark: self.mark,
+            ..Figures::default()
+        };
         for gap in self.closed.iter() {
             if gap.stuck {
                 figures.stuck = figures.stuck.wrapping_add(gap.energy);
@@ -367,34 +335,16 @@ impl Plain {
                 figures.floor = figures.floor.wrapping_add(gap.floor);
             }
             figures.gaps = figures.gaps.wrapping_add(1);
-            if gap.from < 16 {
-                figures.wakes[gap.from] = figures.wakes[gap.from].wrapping_add(1);
+            if let Some(left) = figures.states.get_mut(gap.from) {
+                left.wakes = left.wakes.wrapping_add(1);
             }
         }
-        figures.busy = self.drawn(&self.busy_ticks);
-        figures.pending = self.drawn(&self.gap);
-        figures.length = (self.gap.len() & 0xffff_ffff) as u32;
-        figures.mark = self.mark;
         for state in self.idle_ticks.iter().chain(self.busy_ticks.iter()) {
             figures.ticks = figures.ticks.wrapping_add(1);
-            if *state < 16 {
-                figures.held[*state] = figures.held[*state].wrapping_add(1);
+            if let Some(held) = figures.states.get_mut(*state) {
+                held.ticks = held.ticks.wrapping_add(1);
             }
         }
         figures
     }
-}
-
-/// The energy of a gap on powers 1 and 0 and wake energies 0 and 5, where each tick's state is chosen by the costs so
-/// many ticks before it.
-pub(crate) fn gap_of_two(ticks: u64, late: u64) -> u64 {
-    let mut energy = 0u64;
-    let mut deep = false;
-    for n in 0..ticks {
-        deep = 5 < n.wrapping_add(1).saturating_sub(late);
-        if !deep {
-            energy = energy.wrapping_add(1);
-        }
-    }
-    if deep { energy.wrapping_add(5) } else { energy }
 }

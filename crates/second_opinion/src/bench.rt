@@ -1,10 +1,10 @@
 //! What every trial works with: memory, pseudo-random numbers and the counts.
-use crate::random::Random;
 use crate::tried::Tried;
+use samples::Random;
 use std::alloc::Global;
 
 /// What every trial works with.
-#[derive(Drop)]
+#[derive(Debug, Drop)]
 pub struct Bench {
     pub heap: Global,
     pub random: Random,

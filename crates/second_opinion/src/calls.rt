@@ -1,10 +1,10 @@
 //! Pseudo-random commands to devices and calls of managers.
 use crate::naive::managed::Manager;
-use crate::random::Random;
 use manager::Step;
+use samples::Random;
 
 /// A command to a device.
-#[derive(Clone, Copy)]
+#[derive(Clone, Copy, Debug, PartialEq, Eq)]
 pub enum Command {
     Hold(u8),
     Wake,
@@ -21,7 +21,7 @@ fn code(random: &mut Random) -> u32 {
     match random.below(6) {
         0 => 1,
         1 => u32::MAX,
-        2 => random.bits(),
+        2 => random.word(),
         _ => 0,
     }
 }
@@ -30,9 +30,9 @@ fn code(random: &mut Random) -> u32 {
 fn state(random: &mut Random, present: u8) -> u8 {
     match random.below(8) {
         0 => random.byte(),
-        1 | 2 => (random.below(17) & 0xff) as u8,
+        1 | 2 => random.below(17) as u8,
         3 | 4 => present,
-        _ => present.saturating_add((random.below(3) & 0xff) as u8),
+        _ => present.saturating_add(random.below(3) as u8),
     }
 }
 

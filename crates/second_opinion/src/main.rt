@@ -8,7 +8,6 @@ mod calls;
 mod library;
 mod naive;
 mod piles;
-mod random;
 mod reported;
 mod rows;
 mod shown;
@@ -16,8 +15,8 @@ mod tried;
 mod twin;
 
 use bench::Bench;
-use piles::About;
-use random::Random;
+use piles::{About, Shape};
+use samples::Random;
 use std::alloc::AllocError;
 use std::io;
 use tried::{Numbers, Tried};
@@ -68,7 +67,7 @@ fn print_numbers(rt: &HostRuntime, what: &str, numbers: &Numbers) -> io::Result<
 fn print_piles(rt: &HostRuntime, made: &Numbers) -> io::Result<()> {
     let sum = made.sum();
     println!(rt; "piles of devices: {sum}")?;
-    for (shape, count) in piles::SHAPES.iter().zip(made.counts.iter()) {
+    for (shape, count) in Shape::ALL.iter().zip(made.counts.iter()) {
         println!(rt; "  {shape}: {count}")?;
     }
     Ok(())
@@ -131,7 +130,7 @@ fn main(rt: HostRuntime) -> io::Result<()> {
     let mut bench = Bench {
         heap: rt.alloc(),
         random: Random::new(20_261_117),
-        tried: Tried::nothing(),
+        tried: Tried::default(),
     };
     try_all(&mut bench)?;
     print_devices(&rt, &bench.tried)?;

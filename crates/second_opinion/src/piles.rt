@@ -1,12 +1,14 @@
 //! Trials on piles of devices of all shapes.
 use crate::bench::Bench;
+use crate::naive::table::Rail;
 use crate::twin::Twin;
 use crate::{rows, twin};
 use devices::{Device, Joined, LatencyLimit, TableDevice};
 use std::alloc::AllocError;
+use std::fmt;
 
 /// What a trial is about.
-#[derive(Clone, Copy, PartialEq, Eq)]
+#[derive(Clone, Copy, Debug, PartialEq, Eq)]
 pub enum About {
     /// Commands to devices, which may be in any state before they are piled.
     Commands,
@@ -15,15 +17,44 @@ pub enum About {
 }
 
 /// The shapes of piles.
-pub const SHAPES: [&str; 7] = [
-    "table",
-    "limit on table",
-    "limit on limit on table",
-    "pair of tables",
-    "limit on pair of tables",
-    "pair of limit on table, table",
-    "pair of table, limit on pair of tables",
-];
+#[derive(Clone, Copy, Debug, PartialEq, Eq)]
+pub enum Shape {
+    Table,
+    Limit,
+    LimitOnLimit,
+    Pair,
+    LimitOnPair,
+    PairOfLimit,
+    PairOnPair,
+}
+
+impl Shape {
+    /// All shapes.
+    pub const ALL: [Shape; 7] = [
+        Shape::Table,
+        Shape::Limit,
+        Shape::LimitOnLimit,
+        Shape::Pair,
+        Shape::LimitOnPair,
+        Shape::PairOfLimit,
+        Shape::PairOnPair,
+    ];
+}
+
+impl fmt::Display for Shape {
+    fn fmt<W: fmt::Write>(&self, f: &mut fmt::Formatter<W>) -> fmt::Result {
+        let name = match self {
+            Shape::Table => "table",
+            Shape::Limit => "limit on table",
+            Shape::LimitOnLimit => "limit on limit on table",
+            Shape::Pair => "pair of tables",
+            Shape::LimitOnPair => "limit on pair of tables",
+            Shape::PairOfLimit => "pair of limit on table, table",
+            Shape::PairOnPair => "pair of table, limit on pair of tables",
+        };
+        write!(f, "{name}")
+    }
+}
 
 /// Sometimes commands a device before something is put over it.
 fn prepare<D: Device + Drop>(bench: &mut Bench, twin: &mut Twin<D>, about: About) {
@@ -52,11 +83,11 @@ fn limit<D: Device + Drop>(
 }
 
 /// The power or the energy of a rail.
-fn rail(bench: &mut Bench) -> u32 {
+fn rail_number(bench: &mut Bench) -> u32 {
     match bench.random.below(100) {
         0 => u32::MAX,
         1 => 1_000_000,
-        2 => bench.random.bits(),
+        2 => bench.random.word(),
         _ => bench.random.below(7),
     }
 }
@@ -72,9 +103,11 @@ fn join<D: Device + Drop, E: Device + Drop>(
     let mut other = second;
     prepare(bench, &mut one, about);
     prepare(bench, &mut other, about);
-    let power = rail(bench);
-    let energy = rail(bench);
-    twin::joined(bench.heap, one, other, power, energy)
+    let rail = Rail {
+        power: rail_number(bench),
+        energy: rail_number(bench),
+    };
+    twin::joined(bench.heap, one, other, rail)
 }
 
 /// Works with a whole pile: commands and questions, then a list of calls.
@@ -101,70 +134,52 @@ fn work<D: Device + Drop>(
     pile.manage(bench, number, calls)
 }
 
-/// Piles of one basic device.
-fn on_one(
+/// Piles up to three basic devices, and works with the pile.
+fn pile_up(
     bench: &mut Bench,
-    shape: u32,
-    first: Twin<TableDevice<'_>>,
-    about: About,
-) -> Result<(), AllocError> {
-    match shape {
-        0 => work(bench, first, about),
-        1 => {
-            let pile = limit(bench, first, about)?;
-            work(bench, pile, about)
-        }
-        _ => {
-            let lower = limit(bench, first, about)?;
-            let pile = limit(bench, lower, about)?;
-            work(bench, pile, about)
-        }
-    }
-}
-
-/// Piles of two basic devices.
-fn on_two(
-    bench: &mut Bench,
-    shape: u32,
-    first: Twin<TableDevice<'_>>,
-    second: Twin<TableDevice<'_>>,
-    about: About,
-) -> Result<(), AllocError> {
-    match shape {
-        3 => {
-            let pile = join(bench, first, second, about)?;
-            work(bench, pile, about)
-        }
-        4 => {
-            let both = join(bench, first, second, about)?;
-            let pile = limit(bench, both, about)?;
-            work(bench, pile, about)
-        }
-        _ => {
-            let quick = limit(bench, first, about)?;
-            let pile = join(bench, quick, second, about)?;
-            work(bench, pile, about)
-        }
-    }
-}
-
-/// A pile of three basic devices.
-fn on_three(
-    bench: &mut Bench,
+    shape: Shape,
     first: Twin<TableDevice<'_>>,
     second: Twin<TableDevice<'_>>,
     third: Twin<TableDevice<'_>>,
     about: About,
 ) -> Result<(), AllocError> {
-    let both = join(bench, second, third, about)?;
-    let quick = limit(bench, both, about)?;
-    let pile = join(bench, first, quick, about)?;
-    work(bench, pile, about)
+    match shape {
+        Shape::Table => work(bench, first, about),
+        Shape::Limit => {
+            let pile = limit(bench, first, about)?;
+            work(bench, pile, about)
+        }
+        Shape::LimitOnLimit => {
+            let lower = limit(bench, first, about)?;
+            let pile = limit(bench, lower, about)?;
+            work(bench, pile, about)
+        }
+        Shape::Pair => {
+            let pile = join(bench, first, second, about)?;
+            work(bench, pile, about)
+        }
+        Shape::LimitOnPair => {
+            let both = join(bench, first, second, about)?;
+            let pile = limit(bench, both, about)?;
+            work(bench, pile, about)
+        }
+        Shape::PairOfLimit => {
+            let quick = limit(bench, first, about)?;
+            let pile = join(bench, quick, second, about)?;
+            work(bench, pile, about)
+        }
+        Shape::PairOnPair => {
+            let both = join(bench, second, third, about)?;
+            let quick = limit(bench, both, about)?;
+            let pile = join(bench, first, quick, about)?;
+            work(bench, pile, about)
+        }
+    }
 }
 
 /// One trial on a pile of a pseudo-random shape.
 pub(crate) fn trial(bench: &mut Bench, about: About) -> Result<(), AllocError> {
-    let shape = bench.random.below(7);
+    let shape = Shape::ALL[bench.random.place(Shape::ALL.len())];
     let first_rows = rows::rows_or_not(bench.heap, &mut bench.random)?;
     let second_rows = rows::rows_or_not(bench.heap, &mut bench.random)?;
     let third_rows = rows::rows_or_not(bench.heap, &mut bench.random)?;
@@ -178,10 +193,6 @@ pub(crate) fn trial(bench: &mut Bench, about: About) -> Result<(), AllocError> {
     let Some(third) = twin::basic(bench, 9, third_rows.as_slice())? else {
         return Ok(());
     };
-    bench.tried.piles.note((shape & 63) as u8);
-    match shape {
-        0 | 1 | 2 => on_one(bench, shape, first, about),
-        3 | 4 | 5 => on_two(bench, shape, first, second, about),
-        _ => on_three(bench, first, second, third, about),
-    }
+    bench.tried.piles.note(shape as u8);
+    pile_up(bench, shape, first, second, third, about)
 }

@@ -1,8 +1,10 @@
 //! Trials on pseudo-random traces, whole and damaged.
 use crate::bench::Bench;
 use crate::naive::report;
-use crate::random::Random;
+use crate::naive::trace::Kind;
 use crate::rows;
+use crate::tried::more;
+use samples::Random;
 use std::alloc::{AllocError, Global};
 
 /// Rows of two states: powers 3 and 1, wake energies 0 and 9, latencies 0 and 4.
@@ -18,7 +20,7 @@ const MILLION: [[u32; 2]; 5] = [
 ];
 
 /// A trace that is being written.
-#[derive(Drop)]
+#[derive(Debug, Drop)]
 struct Writer {
     bytes: Vec<u8>,
     number: u16,
@@ -36,12 +38,17 @@ impl Writer {
         };
         let [low, high] = number.to_le_bytes();
         let count = ((rows.len() / 12) & 0xff) as u8;
-        writer.add(1, &[low, high, count], rows)?;
+        writer.add(Kind::Table, &[low, high, count], rows)?;
         Ok(writer)
     }
 
     /// Adds a record with a body of two pieces.
-    fn add(&mut self, kind: u16, front: &[u8], back: &[u8]) -> Result<(), AllocError> {
+    fn add(&mut self, kind: Kind, front: &[u8], back: &[u8]) -> Result<(), AllocError> {
+        self.add_numbered(kind as u16, front, back)
+    }
+
+    /// Adds a record of a kind with a number, which may be that of no kind, with a body of two pieces.
+    fn add_numbered(&mut self, kind: u16, front: &[u8], back: &[u8]) -> Result<(), AllocError> {
         let length = (front.len().wrapping_add(back.len()).wrapping_add(2) & 0xffff) as u16;
         self.bytes.extend_from_slice(&length.to_le_bytes())?;
         self.bytes.extend_from_slice(&kind.to_le_bytes())?;
@@ -54,7 +61,7 @@ impl Writer {
         let release = self.busy ^ random.once_in(100);
         self.busy = !release;
         if release {
-            return self.add(5, number, b"");
+            return self.add(Kind::Release, number, b"");
         }
         let note = printable(random);
         let length = if random.once_in(200) {
@@ -62,7 +69,7 @@ impl Writer {
         } else {
             random.place(17)
         };
-        self.add(4, number, &note[..length.min(17)])
+        self.add(Kind::Request, number, &note[..length])
     }
 
     /// Adds a record that may follow, rarely one for another number, out of order or of an unknown kind.
@@ -76,16 +83,16 @@ impl Writer {
         match random.below(400) {
             0 => {
                 let kind = random.short(10);
-                self.add(kind, &random.bits().to_le_bytes(), b"")
+                self.add_numbered(kind, &random.word().to_le_bytes(), b"")
             }
             1..=40 => {
-                let code = if random.once_in(2) { random.bits() } else { 0 };
-                self.add(6, &number, &code.to_le_bytes())
+                let code = if random.once_in(2) { random.word() } else { 0 };
+                self.add(Kind::Report, &number, &code.to_le_bytes())
             }
             41..=200 => self.turn(random, &number),
             _ => {
                 let count = tick_count(random);
-                self.add(3, &count.to_le_bytes(), b"")
+                self.add(Kind::Ticks, &count.to_le_bytes(), b"")
             }
         }
     }
@@ -93,17 +100,17 @@ impl Writer {
     /// Adds a gap of so many ticks, with a request and a release behind it.
     fn gap(&mut self, ticks: u32) -> Result<(), AllocError> {
         let number = self.number.to_le_bytes();
-        self.add(3, &ticks.to_le_bytes(), b"")?;
-        self.add(4, &number, b"")?;
-        self.add(5, &number, b"")
+        self.add(Kind::Ticks, &ticks.to_le_bytes(), b"")?;
+        self.add(Kind::Request, &number, b"")?;
+        self.add(Kind::Release, &number, b"")
     }
 }
 
 /// Bytes that a note may have, one more than it may.
 fn printable(random: &mut Random) -> [u8; 17] {
     let mut note = [0u8; 17];
-    for place in 0usize..17 {
-        note[place] = (random.below(94).wrapping_add(33) & 0xff) as u8;
+    for byte in note.iter_mut() {
+        *byte = random.below(94) as u8 + 33;
     }
     note
 }
@@ -132,18 +139,18 @@ fn written(
     let mut writer = Writer::new(heap, number, rows.as_slice())?;
     if random.once_in(3) {
         let limit = if random.once_in(8) {
-            random.bits()
+            random.word()
         } else {
             random.below(16)
         };
-        writer.add(2, &limit.to_le_bytes(), b"")?;
+        writer.add(Kind::Limit, &limit.to_le_bytes(), b"")?;
     }
     for _ in 0..records {
         if writer.bytes.len() < most {
             writer.add_any(random)?;
         }
     }
-    writer.add(7, b"", b"")?;
+    writer.add(Kind::End, b"", b"")?;
     Ok(writer.bytes)
 }
 
@@ -175,9 +182,9 @@ fn compare(bench: &mut Bench, trace: &[u8]) -> Result<(), AllocError> {
     tried.reports.note(text.as_str() == plain.text.as_str());
     tried.gap_lines = tried.gap_lines.saturating_add(plain.gaps);
     tried.jam_lines = tried.jam_lines.saturating_add(plain.jams);
-    match plain.stop {
-        Some(stop) => tried.stops.note(stop.number),
-        None => tried.whole = tried.whole.saturating_add(1),
+    match plain.end {
+        Ok(()) => more(&mut tried.whole),
+        Err(stop) => tried.stops.note(stop.number),
     }
     Ok(())
 }
@@ -204,11 +211,11 @@ fn filled(heap: Global, size: usize) -> Result<Vec<u8>, AllocError> {
     let mut writer = Writer::new(heap, 5, TWO_STATES)?;
     let left = size.saturating_sub(writer.bytes.len()).saturating_sub(10);
     let note = &b"noteworthy"[..left % 8];
-    writer.add(4, b"\x05\0", note)?;
+    writer.add(Kind::Request, b"\x05\0", note)?;
     for _ in 0..left / 8 {
-        writer.add(3, b"\x07\0\0\0", b"")?;
+        writer.add(Kind::Ticks, b"\x07\0\0\0", b"")?;
     }
-    writer.add(7, b"", b"")?;
+    writer.add(Kind::End, b"", b"")?;
     Ok(writer.bytes)
 }
 
@@ -219,7 +226,7 @@ pub(crate) fn edges(bench: &mut Bench) -> Result<(), AllocError> {
         for ticks in gaps {
             writer.gap(ticks)?;
         }
-        writer.add(7, b"", b"")?;
+        writer.add(Kind::End, b"", b"")?;
         compare(bench, writer.bytes.as_slice())?;
     }
     for size in 65_533usize..65_540 {

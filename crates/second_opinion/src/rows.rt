@@ -1,6 +1,6 @@
 //! Pseudo-random rows of tables, fit and unfit.
 use crate::naive::table::Level;
-use crate::random::Random;
+use samples::Random;
 use std::alloc::{AllocError, Global};
 
 /// The number of states of a table: 1 to 16, mostly few.
@@ -40,13 +40,12 @@ fn fit_levels(heap: Global, random: &mut Random) -> Result<Vec<Level>, AllocErro
         wake: 0,
         latency: 0,
     };
-    for state in 0..count {
-        if state > 0 {
-            let fall = random.below(largest_fall).wrapping_add(1);
-            level.power = level.power.wrapping_sub(fall);
-            level.wake = level.wake.wrapping_add(rise(random, fall));
-            level.latency = level.latency.wrapping_add(random.below(largest_wait));
-        }
+    levels.push(level)?;
+    for _ in 1..count {
+        let fall = random.below(largest_fall).wrapping_add(1);
+        level.power = level.power.wrapping_sub(fall);
+        level.wake = level.wake.wrapping_add(rise(random, fall));
+        level.latency = level.latency.wrapping_add(random.below(largest_wait));
         levels.push(level)?;
     }
     Ok(levels)
@@ -62,12 +61,12 @@ fn edge(random: &mut Random) -> u32 {
         4 => 100_000,
         5 => 100_001,
         6 => u32::MAX,
-        _ => random.bits(),
+        _ => random.word(),
     }
 }
 
 /// Changes one number of one level: to that of its neighbour, by one, or to a number near a maximum.
-fn spoil(random: &mut Random, levels: &mut Vec<Level>) {
+fn spoil(random: &mut Random, levels: &mut [Level]) {
     let place = random.place(levels.len());
     let Some(neighbour) = levels.get(random.place(levels.len())).copied() else {
         return;
@@ -92,7 +91,7 @@ fn spoil(random: &mut Random, levels: &mut Vec<Level>) {
 }
 
 /// Puts the first or last number of a kind at its maximum, where a fit table may have it.
-fn stretch(random: &mut Random, levels: &mut Vec<Level>) {
+fn stretch(random: &mut Random, levels: &mut [Level]) {
     let last = levels.len().saturating_sub(1);
     let how = random.below(3);
     let place = if how == 0 { 0 } else { last };
@@ -105,18 +104,13 @@ fn stretch(random: &mut Random, levels: &mut Vec<Level>) {
     }
 }
 
-/// Adds a number of four bytes, the lowest first.
-fn push_four(bytes: &mut Vec<u8>, number: u32) -> Result<(), AllocError> {
-    bytes.extend_from_slice(&number.to_le_bytes())
-}
-
 /// The bytes of rows.
-fn bytes_of(heap: Global, levels: &Vec<Level>) -> Result<Vec<u8>, AllocError> {
+fn bytes_of(heap: Global, levels: &[Level]) -> Result<Vec<u8>, AllocError> {
     let mut bytes = Vec::new(heap);
-    for level in levels.iter() {
-        push_four(&mut bytes, level.power)?;
-        push_four(&mut bytes, level.wake)?;
-        push_four(&mut bytes, level.latency)?;
+    for level in levels {
+        for number in [level.power, level.wake, level.latency] {
+            bytes.extend_from_slice(&number.to_le_bytes())?;
+        }
     }
     Ok(bytes)
 }
@@ -138,15 +132,15 @@ pub(crate) fn rows(heap: Global, random: &mut Random) -> Result<Vec<u8>, AllocEr
     }
     let mut levels = fit_levels(heap, random)?;
     if random.once_in(20) {
-        stretch(random, &mut levels);
+        stretch(random, levels.as_mut_slice());
     }
     if random.once_in(10) {
-        spoil(random, &mut levels);
+        spoil(random, levels.as_mut_slice());
     }
     if random.once_in(60) {
-        spoil(random, &mut levels);
+        spoil(random, levels.as_mut_slice());
     }
-    bytes_of(heap, &levels)
+    bytes_of(heap, levels.as_slice())
 }
 
 /// Rows, and rarely bytes that are no rows: of a wrong length.

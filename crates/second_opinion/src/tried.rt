@@ -1,61 +1,21 @@
 //! What was tried, and how much of it was compared and differs.
+use crate::naive::answer::{Answer, Refusal};
 
 /// How many answers of one kind were compared, and how many differ.
-#[derive(Clone, Copy)]
+#[derive(Clone, Copy, Debug, Default, PartialEq, Eq)]
 pub struct Count {
     pub compared: u32,
     pub differ: u32,
 }
 
-/// Nothing compared.
-const NONE: Count = Count {
-    compared: 0,
-    differ: 0,
-};
-
-impl Count {
-    /// Counts one comparison.
-    pub(crate) fn note(&mut self, same: bool) {
-        self.compared = self.compared.saturating_add(1);
-        if !same {
-            self.differ = self.differ.saturating_add(1);
-        }
-    }
-
-    /// Both counts together.
-    pub(crate) fn with(self, other: Count) -> Count {
-        Count {
-            compared: self.compared.saturating_add(other.compared),
-            differ: self.differ.saturating_add(other.differ),
-        }
-    }
-}
-
-/// For each number below 64, how often it came.
-#[derive(Clone, Copy)]
+/// For each number below 64, how often it came. All refusals have numbers below 64, and are printed in this order.
+#[derive(Clone, Copy, Debug, Default, PartialEq, Eq)]
 pub struct Numbers {
     pub counts: [u32; 64],
 }
 
-impl Numbers {
-    /// Counts a number once more.
-    pub(crate) fn note(&mut self, number: u8) {
-        let place = (number & 63) as usize;
-        self.counts[place] = self.counts[place].saturating_add(1);
-    }
-
-    /// How often any number came.
-    pub(crate) fn sum(&self) -> u32 {
-        let mut sum = 0u32;
-        for count in self.counts.iter() {
-            sum = sum.saturating_add(*count);
-        }
-        sum
-    }
-}
-
 /// Everything that was tried.
-#[derive(Drop)]
+#[derive(Debug, Default, Drop)]
 pub struct Tried {
     /// For each shape of pile, how many were made.
     pub piles: Numbers,
@@ -83,31 +43,62 @@ pub struct Tried {
     pub stops: Numbers,
 }
 
-/// No number came.
-const NO_NUMBERS: Numbers = Numbers { counts: [0; 64] };
+/// One more.
+pub(crate) fn more(count: &mut u32) {
+    *count = count.saturating_add(1);
+}
+
+impl Count {
+    /// Counts one comparison.
+    pub(crate) fn note(&mut self, same: bool) {
+        more(&mut self.compared);
+        if !same {
+            more(&mut self.differ);
+        }
+    }
+
+    /// Both counts together.
+    pub(crate) fn with(self, other: Count) -> Count {
+        Count {
+            compared: self.compared.saturating_add(other.compared),
+            differ: self.differ.saturating_add(other.differ),
+        }
+    }
+}
+
+impl Numbers {
+    /// Counts a number once more.
+    pub(crate) fn note(&mut self, number: u8) {
+        if let Some(count) = self.counts.get_mut(usize::from(number)) {
+            more(count);
+        }
+    }
+
+    /// How often any number came.
+    pub(crate) fn sum(&self) -> u32 {
+        self.counts
+            .iter()
+            .fold(0u32, |sum, count| sum.saturating_add(*count))
+    }
+}
 
 impl Tried {
-    /// Nothing was tried yet.
-    pub(crate) fn nothing() -> Tried {
-        Tried {
-            piles: NO_NUMBERS,
-            bad_rows: 0,
-            commands: NONE,
-            moves: 0,
-            refused_moves: NO_NUMBERS,
-            questions: NONE,
-            lists: 0,
-            answers: NONE,
-            refused_attaches: NO_NUMBERS,
-            refused_calls: NO_NUMBERS,
-            clean_gaps: 0,
-            stuck_gaps: 0,
-            stuck_ticks: 0,
-            reports: NONE,
-            whole: 0,
-            gap_lines: 0,
-            jam_lines: 0,
-            stops: NO_NUMBERS,
+    /// Counts what a device answered to a hold or a wake.
+    pub(crate) fn note_move(&mut self, answer: Result<u32, Refusal>) {
+        match answer {
+            Ok(_) => more(&mut self.moves),
+            Err(refusal) => self.refused_moves.note(refusal.number),
+        }
+    }
+
+    /// Counts what a manager answered to a call.
+    pub(crate) fn note_answer(&mut self, answer: &Result<Answer, Refusal>) {
+        match answer {
+            Ok(Answer::Closed { gap, .. }) if gap.stuck => more(&mut self.stuck_gaps),
+            Ok(Answer::Closed { .. }) => more(&mut self.clean_gaps),
+            Ok(Answer::Ticked { jam: Some(_), .. }) => more(&mut self.stuck_ticks),
+            Ok(_) => {}
+            Err(refusal) => self.refused_calls.note(refusal.number),
         }
     }
 

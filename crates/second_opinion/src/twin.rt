@@ -1,20 +1,20 @@
 //! A device of the library and the same device of the naive implementation, commanded and asked together.
 use crate::bench::Bench;
 use crate::calls::Command;
-use crate::naive::answer::{Answer, Move};
+use crate::naive::answer::{Answer, Refusal};
+use crate::naive::device::Part;
+use crate::naive::early;
 use crate::naive::managed::Manager;
-use crate::tried::Tried;
-use crate::{calls, library, naive};
+use crate::naive::table::Rail;
+use crate::tried::{Tried, more};
+use crate::{calls, naive};
 use devices::{Device, Joined, LatencyLimit, TableDevice};
-use manager::Step;
+use manager::{Step, replies_to};
 use states::StateTable;
 use std::alloc::{AllocError, Global};
 
-/// The number with which rows that make no device are refused.
-const BAD_ROWS: u8 = 15;
-
 /// The two devices.
-#[derive(Drop)]
+#[derive(Debug, Drop)]
 pub struct Twin<D> {
     device: D,
     plain: naive::device::Device,
@@ -26,15 +26,15 @@ pub(crate) fn basic<'a>(
     number: u16,
     rows: &'a [u8],
 ) -> Result<Option<Twin<TableDevice<'a>>>, AllocError> {
-    let plain = naive::device::Device::basic(bench.heap, number, rows)?;
+    let plain = early::outcome(naive::device::Device::basic(bench.heap, number, rows))?;
     match (TableDevice::new(number, rows), plain) {
-        (Ok(device), Some(plain)) => {
+        (Ok(device), Ok(plain)) => {
             bench.tried.questions.note(true);
             Ok(Some(Twin { device, plain }))
         }
-        (Err(why), None) => {
-            bench.tried.questions.note(why.number() == BAD_ROWS);
-            bench.tried.bad_rows = bench.tried.bad_rows.saturating_add(1);
+        (Err(why), Err(refusal)) => {
+            bench.tried.questions.note(why.number() == refusal.number);
+            more(&mut bench.tried.bad_rows);
             Ok(None)
         }
         _ => {
@@ -63,48 +63,25 @@ pub(crate) fn joined<D: Device + Drop, E: Device + Drop>(
     heap: Global,
     first: Twin<D>,
     second: Twin<E>,
-    rail_power: u32,
-    rail_energy: u32,
+    rail: Rail,
 ) -> Result<Twin<Joined<D, E>>, AllocError> {
-    let plain = naive::device::Device::joined(
-        heap,
-        &first.plain,
-        &second.plain,
-        rail_power,
-        rail_energy,
-    )?;
+    let plain = naive::device::Device::joined(heap, &first.plain, &second.plain, rail)?;
     let Twin { device: one, .. } = first;
     let Twin { device: other, .. } = second;
     Ok(Twin {
-        device: Joined::new(one, other, rail_power, rail_energy),
+        device: Joined::new(one, other, rail.power, rail.energy),
         plain,
     })
 }
 
-/// Counts what a device answered to a move.
-fn note_move(tried: &mut Tried, answer: Move) {
-    match answer {
-        Move::Drawn(_) => tried.moves = tried.moves.saturating_add(1),
-        Move::Refused(refusal) => tried.refused_moves.note(refusal.number),
-    }
-}
-
-/// Counts what a manager answered to a call.
-fn note_answer(tried: &mut Tried, answer: Answer) {
-    match answer {
-        Answer::Closed { gap, .. } => {
-            if gap.stuck {
-                tried.stuck_gaps = tried.stuck_gaps.saturating_add(1);
-            } else {
-                tried.clean_gaps = tried.clean_gaps.saturating_add(1);
-            }
-        }
-        Answer::Ticked { jam: Some(_), .. } => {
-            tried.stuck_ticks = tried.stuck_ticks.saturating_add(1);
-        }
-        Answer::Refused(refusal) => tried.refused_calls.note(refusal.number),
-        _ => {}
-    }
+/// Compares what the two devices answered to a hold or a wake.
+fn compare_moves(
+    tried: &mut Tried,
+    library: Result<u32, devices::Refusal>,
+    plain: Result<u32, Refusal>,
+) {
+    tried.commands.note(library.map_err(Refusal::from) == plain);
+    tried.note_move(plain);
 }
 
 impl<D: Device + Drop> Twin<D> {
@@ -132,7 +109,7 @@ impl<D: Device + Drop> Twin<D> {
         tried
             .questions
             .note(self.device.settled() == self.plain.settled());
-        let fault = library::part_of(self.device.fault());
+        let fault = self.device.fault().map(Part::from);
         tried.questions.note(fault == self.plain.fault());
         for state in 0..=deepest.saturating_add(1) {
             self.ask_level(tried, state);
@@ -144,21 +121,14 @@ impl<D: Device + Drop> Twin<D> {
     fn command(&mut self, tried: &mut Tried, command: Command) {
         match command {
             Command::Hold(state) => {
-                let answer = self.plain.hold(state);
-                let same = library::move_of(self.device.hold(state)) == answer;
-                tried.commands.note(same);
-                note_move(tried, answer);
+                compare_moves(tried, self.device.hold(state), self.plain.hold(state));
             }
-            Command::Wake => {
-                let answer = self.plain.wake();
-                let same = library::move_of(self.device.wake()) == answer;
-                tried.commands.note(same);
-                note_move(tried, answer);
-            }
+            Command::Wake => compare_moves(tried, self.device.wake(), self.plain.wake()),
             Command::Report { number, code } => {
-                let answer = self.plain.report(number, code);
-                let same = self.device.report(number, code) == answer;
-                tried.commands.note(same);
+                let found = self.plain.report(number, code);
+                tried
+                    .commands
+                    .note(self.device.report(number, code) == found);
             }
         }
     }
@@ -188,19 +158,19 @@ impl<D: Device + Drop> Twin<D> {
     ) -> Result<(), AllocError> {
         let Twin { device, plain } = self;
         let mut manager = Manager::attach(bench.heap, number, plain);
-        if let Some(refusal) = manager.shut() {
-            bench.tried.refused_attaches.note(refusal);
+        if let Err(refusal) = manager.attached() {
+            bench.tried.refused_attaches.note(refusal.number);
         }
         let mut steps = Vec::new(bench.heap);
         let mut answers = Vec::new(bench.heap);
         for _ in 0..count {
-            let step = calls::any_call(&mut bench.random, &manager, number);
-            steps.push(step)?;
-            answers.push(manager.take(step)?)?;
-            steps.push(Step::Figures)?;
-            answers.push(manager.take(Step::Figures)?)?;
+            let call = calls::any_call(&mut bench.random, &manager, number);
+            for step in [call, Step::Figures] {
+                steps.push(step)?;
+                answers.push(early::outcome(manager.take(step))?)?;
+            }
         }
-        compare_answers(bench, number, device, steps.as_slice(), &answers)
+        compare_answers(bench, number, device, steps.as_slice(), answers.as_slice())
     }
 }
 
@@ -210,15 +180,15 @@ pub(crate) fn compare_answers<D: Device + Drop>(
     number: u16,
     device: D,
     steps: &[Step],
-    answers: &Vec<Answer>,
+    answers: &[Result<Answer, Refusal>],
 ) -> Result<(), AllocError> {
-    let replies = library::replies(bench.heap, number, device, steps)?;
+    let replies = replies_to(bench.heap, number, device, steps)?;
     let tried = &mut bench.tried;
-    tried.lists = tried.lists.saturating_add(1);
+    more(&mut tried.lists);
     tried.answers.note(replies.len() == answers.len());
     for (reply, answer) in replies.iter().zip(answers.iter()) {
-        tried.answers.note(library::answer_of(*reply) == *answer);
-        note_answer(tried, *answer);
+        tried.answers.note(Answer::try_from(*reply) == *answer);
+        tried.note_answer(answer);
     }
     Ok(())
 }

@@ -6,56 +6,43 @@ ghost use Rattle.std.specs.Prelude.{◌≡◌};
 ghost use Rattle.manager.specs.Rules.{release, done};
 ghost use Rattle.manager.specs.Meaning.{meaning, Waits, KeepsLease};
 
-use devices::{Device, Fault, TableDevice};
+use devices::{Device, TableDevice};
 use manager::{Account, ClosedGap, Lease, Manager, Refusal, Ticked};
+use samples::{FaultText, Figures, MODEM};
 use std::io;
-
-/// The rows of a modem: powers 10, 4, 1, wake energies 0, 20, 50 and latencies 0, 2, 9.
-const MODEM: &[u8] = b"\x0a\0\0\0\0\0\0\0\0\0\0\0\
-    \x04\0\0\0\x14\0\0\0\x02\0\0\0\
-    \x01\0\0\0\x32\0\0\0\x09\0\0\0";
 
 /// The number of the modem and of its manager.
 const NUMBER: u16 = 7;
+
+/// How many states the modem has.
+const STATES: usize = 3;
 
 /// Prints a refusal, with the fault that it names.
 fn show_refusal(rt: &HostRuntime, refusal: Refusal) -> io::Result<()> {
     let number = refusal.number();
     match refusal {
         Refusal::Jammed(fault) => {
-            print!(rt; "refused {number}: ")?;
-            show_fault(rt, fault)
+            let fault = FaultText(fault);
+            println!(rt; "refused {number}: fault {fault}")
         }
         _ => println!(rt; "refused {number}"),
     }
 }
 
-/// Prints a fault: part number, code, depth, states from and to.
-fn show_fault(rt: &HostRuntime, fault: Fault) -> io::Result<()> {
-    let Fault {
-        number,
-        code,
-        depth,
-        from,
-        to,
-    } = fault;
-    println!(rt; "fault {number} {code} {depth} {from} {to}")
-}
-
 /// Prints what a tick held.
 fn show_tick(rt: &HostRuntime, answer: Result<Ticked, Refusal>) -> io::Result<()> {
     match answer {
-        Ok(tick) => {
-            let state = tick.state;
-            let energy = tick.energy;
-            match tick.fault {
-                Some(fault) => {
-                    print!(rt; "tick {state} {energy} ")?;
-                    show_fault(rt, fault)
-                }
-                None => println!(rt; "tick {state} {energy}"),
-            }
+        Ok(
+            Ticked {
+                state,
+                energy,
+                fault: Some(fault),
+            },
+        ) => {
+            let fault = FaultText(fault);
+            println!(rt; "tick {state} {energy} fault {fault}")
         }
+        Ok(Ticked { state, energy, .. }) => println!(rt; "tick {state} {energy}"),
         Err(refusal) => show_refusal(rt, refusal),
     }
 }
@@ -70,13 +57,14 @@ fn show_gap(rt: &HostRuntime, gap: ClosedGap) -> io::Result<()> {
         from,
         latency,
     } = gap;
-    print!(rt; "gap {length} energy {energy} floor {floor} ")?;
-    println!(rt; "stuck {stuck} from {from} latency {latency}")
+    println!(rt;
+        "gap {length} energy {energy} floor {floor} stuck {stuck} from {from} latency {latency}"
+    )
 }
 
 /// Prints the account.
 fn show_figures(rt: &HostRuntime, account: Account) -> io::Result<()> {
-    let Account {
+    let Figures {
         clean,
         floor,
         stuck,
@@ -85,15 +73,14 @@ fn show_figures(rt: &HostRuntime, account: Account) -> io::Result<()> {
         length,
         ticks,
         gaps,
-        tallies,
+        states,
         ..
-    } = account;
+    } = Figures::from(account);
     print!(rt; "clean {clean} floor {floor} stuck {stuck} busy {busy} ")?;
     println!(rt; "open {pending} length {length} ticks {ticks} gaps {gaps}")?;
-    for state in 0u8..3 {
-        let tally = tallies.of(state);
-        let ticks = tally.ticks;
-        let wakes = tally.wakes;
+    for (state, figures) in states.iter().take(STATES).enumerate() {
+        let ticks = figures.ticks;
+        let wakes = figures.wakes;
         println!(rt; "state {state} ticks {ticks} wakes {wakes}")?;
     }
     Ok(())

@@ -1,7 +1,9 @@
 //! Answers as plain values, so that those of the library and of the naive implementation can be compared.
+use samples::Figures;
+use std::fmt;
 
 /// What a refusal for a fault names.
-#[derive(Clone, Copy, PartialEq, Eq)]
+#[derive(Clone, Copy, Debug, PartialEq, Eq)]
 pub struct Jam {
     pub number: u16,
     pub code: u32,
@@ -11,52 +13,14 @@ pub struct Jam {
 }
 
 /// A refusal: its number, and what it names if it is for a fault.
-#[derive(Clone, Copy, PartialEq, Eq)]
+#[derive(Clone, Copy, Debug, PartialEq, Eq)]
 pub struct Refusal {
     pub number: u8,
     pub jam: Option<Jam>,
 }
 
-/// The answer of a device to hold or wake.
-#[derive(Clone, Copy, PartialEq, Eq)]
-pub enum Move {
-    Drawn(u32),
-    Refused(Refusal),
-}
-
-/// The account of a manager.
-#[derive(Clone, Copy, PartialEq, Eq)]
-pub struct Figures {
-    pub clean: u64,
-    pub floor: u64,
-    pub stuck: u64,
-    pub busy: u64,
-    pub pending: u64,
-    pub length: u32,
-    pub mark: bool,
-    pub ticks: u32,
-    pub gaps: u32,
-    pub held: [u32; 16],
-    pub wakes: [u32; 16],
-}
-
-/// The account of a manager to which nothing has happened.
-pub const EMPTY: Figures = Figures {
-    clean: 0,
-    floor: 0,
-    stuck: 0,
-    busy: 0,
-    pending: 0,
-    length: 0,
-    mark: false,
-    ticks: 0,
-    gaps: 0,
-    held: [0; 16],
-    wakes: [0; 16],
-};
-
 /// A gap that a request has closed.
-#[derive(Clone, Copy, PartialEq, Eq)]
+#[derive(Clone, Copy, Debug, PartialEq, Eq)]
 pub struct Gap {
     pub length: u32,
     pub energy: u64,
@@ -67,7 +31,7 @@ pub struct Gap {
 }
 
 /// The answer of a manager to a call.
-#[derive(Clone, Copy, PartialEq, Eq)]
+#[derive(Clone, Copy, Debug, PartialEq, Eq)]
 pub enum Answer {
     Ticked {
         state: u8,
@@ -82,10 +46,46 @@ pub enum Answer {
     Released,
     Reported,
     Shown(Figures),
-    Refused(Refusal),
 }
 
-/// A refusal that names nothing.
-pub(crate) fn plainly(number: u8) -> Refusal {
-    Refusal { number, jam: None }
+impl Refusal {
+    /// A refusal that names nothing.
+    pub(crate) fn numbered(number: u8) -> Refusal {
+        Refusal { number, jam: None }
+    }
+}
+
+impl Gap {
+    /// `stuck` or `clean`.
+    pub(crate) fn mark(&self) -> &'static str {
+        if self.stuck { "stuck" } else { "clean" }
+    }
+}
+
+impl fmt::Display for Jam {
+    fn fmt<W: fmt::Write>(&self, f: &mut fmt::Formatter<W>) -> fmt::Result {
+        let Jam {
+            number,
+            code,
+            depth,
+            from,
+            to,
+        } = *self;
+        write!(f, "{number} {code} {depth} {from} {to}")
+    }
+}
+
+impl fmt::Display for Gap {
+    fn fmt<W: fmt::Write>(&self, f: &mut fmt::Formatter<W>) -> fmt::Result {
+        let mark = self.mark();
+        let Gap {
+            length,
+            energy,
+            floor,
+            from,
+            latency,
+            ..
+        } = *self;
+        write!(f, "{length} {mark} {energy} {floor} {from} {latency}")
+    }
 }

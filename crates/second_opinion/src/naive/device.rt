@@ -1,12 +1,13 @@
 //! A device as its meaning: levels, state, held count, parts and whether it is settled. Each make only says how these
 //! come from those of the devices below; the commands are the same for all.
-use crate::naive::answer::{Jam, Move, Refusal};
-use crate::naive::table::Level;
-use crate::naive::{answer, table};
+use crate::naive::answer::{Jam, Refusal};
+use crate::naive::early::Early;
+use crate::naive::table;
+use crate::naive::table::{Level, Rail};
 use std::alloc::{AllocError, Global};
 
 /// A basic device in a pile.
-#[derive(Clone, Copy, PartialEq, Eq)]
+#[derive(Clone, Copy, Debug, PartialEq, Eq)]
 pub struct Part {
     pub number: u16,
     pub code: u32,
@@ -14,7 +15,7 @@ pub struct Part {
 }
 
 /// A device of any make.
-#[derive(Drop)]
+#[derive(Debug, Drop)]
 pub struct Device {
     levels: Vec<Level>,
     state: u8,
@@ -23,68 +24,45 @@ pub struct Device {
     settled: bool,
 }
 
-/// Adds parts to a list, each one layer further down.
-fn add_below(list: &mut Vec<Part>, parts: &Vec<Part>) -> Result<(), AllocError> {
-    for part in parts.iter() {
-        list.push(Part {
-            number: part.number,
-            code: part.code,
-            depth: part.depth.saturating_add(1),
-        })?;
+impl Part {
+    /// The part as seen from one layer further up.
+    fn layered(&self) -> Part {
+        Part {
+            depth: self.depth.saturating_add(1),
+            ..*self
+        }
     }
-    Ok(())
-}
-
-/// The refusal of a move for a fault.
-fn jammed(part: Part, from: u8, to: u8) -> Move {
-    Move::Refused(Refusal {
-        number: 43,
-        jam: Some(Jam {
-            number: part.number,
-            code: part.code,
-            depth: part.depth,
-            from,
-            to,
-        }),
-    })
 }
 
 impl Device {
-    /// A table device; none if the rows are refused with 15.
-    pub(crate) fn basic(
-        heap: Global,
-        number: u16,
-        rows: &[u8],
-    ) -> Result<Option<Device>, AllocError> {
+    /// A table device, or the refusal of the rows.
+    pub(crate) fn basic(heap: Global, number: u16, rows: &[u8]) -> Result<Device, Early<Refusal>> {
         if rows.len() < 12 || rows.len() > 192 || rows.len() % 12 != 0 {
-            return Ok(None);
+            return Err(Early::Refused(Refusal::numbered(15)));
         }
-        let mut parts = Vec::new(heap);
-        parts.push(Part {
+        let part = Part {
             number,
             code: 0,
             depth: 0,
-        })?;
-        Ok(Some(Device {
+        };
+        Ok(Device {
             levels: table::levels_of(heap, rows)?,
             state: 0,
             held: 0,
-            parts,
+            parts: vec![in heap; part]?,
             settled: true,
-        }))
+        })
     }
 
     /// A latency limit over a device.
     pub(crate) fn limited(heap: Global, lower: &Device, limit: u32) -> Result<Device, AllocError> {
-        let levels = table::limited(heap, &lower.levels, limit)?;
-        let settled = lower.settled && lower.state <= table::deepest(&levels);
-        let mut parts = Vec::new(heap);
-        add_below(&mut parts, &lower.parts)?;
+        let levels = table::limited(heap, lower.levels(), limit)?;
+        let settled = lower.settled && lower.state <= table::deepest(levels.as_slice());
         Ok(Device {
             levels,
             state: lower.state,
             held: lower.held,
-            parts,
+            parts: lower.parts.iter().map(|part| part.layered()).collect(heap)?,
             settled,
         })
     }
@@ -94,18 +72,15 @@ impl Device {
         heap: Global,
         first: &Device,
         second: &Device,
-        rail_power: u32,
-        rail_energy: u32,
+        rail: Rail,
     ) -> Result<Device, AllocError> {
         let state = first.state.max(second.state);
-        let mut parts = Vec::new(heap);
-        add_below(&mut parts, &first.parts)?;
-        add_below(&mut parts, &second.parts)?;
+        let parts = first.parts.iter().chain(second.parts.iter());
         Ok(Device {
-            levels: table::joined(heap, &first.levels, &second.levels, rail_power, rail_energy)?,
+            levels: table::joined(heap, first.levels(), second.levels(), rail)?,
             state,
             held: first.held.min(second.held),
-            parts,
+            parts: parts.map(|part| part.layered()).collect(heap)?,
             settled: first.settled
                 && second.settled
                 && first.state == state.min(first.deepest())
@@ -114,18 +89,18 @@ impl Device {
     }
 
     /// The levels of the device's table.
-    pub(crate) fn levels(&self) -> &Vec<Level> {
-        &self.levels
+    pub(crate) fn levels(&self) -> &[Level] {
+        self.levels.as_slice()
     }
 
     /// The deepest state.
     pub(crate) fn deepest(&self) -> u8 {
-        table::deepest(&self.levels)
+        table::deepest(self.levels())
     }
 
     /// The level of a state, beyond the deepest that of the deepest.
     pub(crate) fn level(&self, state: u8) -> Level {
-        table::level_at(&self.levels, state)
+        table::level_at(self.levels(), state)
     }
 
     /// The state.
@@ -145,45 +120,51 @@ impl Device {
 
     /// The first part with a code other than 0.
     pub(crate) fn fault(&self) -> Option<Part> {
-        for part in self.parts.iter() {
-            if part.code != 0 {
-                return Some(*part);
+        self.parts.iter().find(|part| part.code != 0).copied()
+    }
+
+    /// Goes to a state, which a faulty part refuses if it is another.
+    fn go(&mut self, to: u8) -> Result<(), Refusal> {
+        let from = self.state;
+        match self.fault() {
+            Some(part) if from != to => Err(Refusal {
+                number: 43,
+                jam: Some(Jam {
+                    number: part.number,
+                    code: part.code,
+                    depth: part.depth,
+                    from,
+                    to,
+                }),
+            }),
+            _ => {
+                self.state = to;
+                Ok(())
             }
         }
-        None
     }
 
     /// Holds a state for one tick.
-    pub(crate) fn hold(&mut self, state: u8) -> Move {
+    pub(crate) fn hold(&mut self, state: u8) -> Result<u32, Refusal> {
         if !self.settled {
-            return Move::Refused(answer::plainly(41));
+            return Err(Refusal::numbered(41));
         }
         if state < self.state || state > self.deepest() {
-            return Move::Refused(answer::plainly(42));
+            return Err(Refusal::numbered(42));
         }
-        if state != self.state {
-            if let Some(part) = self.fault() {
-                return jammed(part, self.state, state);
-            }
-        }
-        self.state = state;
+        self.go(state)?;
         self.held = self.held.saturating_add(1);
-        Move::Drawn(self.level(state).power)
+        Ok(self.level(state).power)
     }
 
     /// Goes back to state 0.
-    pub(crate) fn wake(&mut self) -> Move {
+    pub(crate) fn wake(&mut self) -> Result<u32, Refusal> {
         if !self.settled {
-            return Move::Refused(answer::plainly(41));
+            return Err(Refusal::numbered(41));
         }
         let left = self.state;
-        if left != 0 {
-            if let Some(part) = self.fault() {
-                return jammed(part, left, 0);
-            }
-        }
-        self.state = 0;
-        Move::Drawn(self.level(left).wake)
+        self.go(0)?;
+        Ok(self.level(left).wake)
     }
 
     /// Sets the code of each part with a number; whether there was one.

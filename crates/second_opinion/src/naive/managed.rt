@@ -1,16 +1,18 @@
 //! The manager: a gap is the list of its ticks, and the figures are summed up from the lists when they are asked for.
-use crate::naive::answer::{Answer, Figures, Gap, Move, Refusal};
+use crate::naive::answer::{Answer, Gap, Refusal};
 use crate::naive::device::Device;
-use crate::naive::{answer, table};
+use crate::naive::early::Early;
+use crate::naive::table;
 use manager::Step;
+use samples::Figures;
 use std::alloc::{AllocError, Global};
 
 /// A manager over one device.
-#[derive(Drop)]
+#[derive(Debug, Drop)]
 pub struct Manager {
     number: u16,
     device: Device,
-    shut: Option<u8>,
+    attached: Result<(), Refusal>,
     busy: bool,
     mark: bool,
     /// The states of the ticks of the open gap.
@@ -21,34 +23,27 @@ pub struct Manager {
     closed: Vec<Gap>,
 }
 
-/// The number with which attaching a device is refused, if it is.
-fn attach_refusal(device: &Device) -> Option<u8> {
+/// Whether a device may be attached, or the refusal of one that may not.
+fn attach(device: &Device) -> Result<(), Refusal> {
     if !device.settled() || device.state() != 0 {
-        Some(11)
-    } else {
-        table::unfitness(device.levels())
+        return Err(Refusal::numbered(11));
     }
+    table::fitness(device.levels())
 }
 
 /// The length of a list, as far as 32 bits go.
-fn count<T>(list: &Vec<T>) -> u32 {
+fn count<T>(list: &[T]) -> u32 {
     (list.len() & 0xffff_ffff) as u32
-}
-
-/// The tallies with one more for a state.
-fn add_one(tallies: &mut [u32; 16], state: u8) {
-    let state = (state & 15) as usize;
-    tallies[state] = tallies[state].wrapping_add(1);
 }
 
 impl Manager {
     /// Attaches a device.
     pub(crate) fn attach(heap: Global, number: u16, device: Device) -> Manager {
-        let shut = attach_refusal(&device);
+        let attached = attach(&device);
         Manager {
             number,
             device,
-            shut,
+            attached,
             busy: false,
             mark: false,
             gap: Vec::new(heap),
@@ -58,14 +53,14 @@ impl Manager {
         }
     }
 
-    /// The number with which attach was refused, if it was.
-    pub(crate) fn shut(&self) -> Option<u8> {
-        self.shut
+    /// Whether the device was attached, or why not.
+    pub(crate) fn attached(&self) -> Result<(), Refusal> {
+        self.attached
     }
 
     /// The number of closed gaps.
     pub(crate) fn gaps(&self) -> u32 {
-        count(&self.closed)
+        count(self.closed.as_slice())
     }
 
     /// Whether the manager is busy.
@@ -75,22 +70,21 @@ impl Manager {
 
     /// The number of accepted ticks.
     fn ticks(&self) -> u32 {
-        count(&self.idle_ticks).wrapping_add(count(&self.busy_ticks))
+        count(self.idle_ticks.as_slice()).wrapping_add(count(self.busy_ticks.as_slice()))
     }
 
     /// The power of all the ticks of a list.
-    fn drawn(&self, ticks: &Vec<u8>) -> u64 {
-        let mut sum = 0u64;
-        for state in ticks.iter() {
-            sum = sum.wrapping_add(u64::from(self.device.level(*state).power));
-        }
-        sum
+    fn drawn(&self, ticks: &[u8]) -> u64 {
+        ticks
+            .iter()
+            .map(|state| u64::from(self.device.level(*state).power))
+            .fold(0u64, |sum, power| sum.wrapping_add(power))
     }
 
     /// Works a tick.
-    fn tick(&mut self) -> Result<Answer, AllocError> {
+    fn tick(&mut self) -> Result<Answer, Early<Refusal>> {
         if self.ticks() >= 1_000_000 {
-            return Ok(Answer::Refused(answer::plainly(23)));
+            return Err(Early::Refused(Refusal::numbered(23)));
         }
         let wanted = if self.busy {
             0
@@ -100,35 +94,30 @@ impl Manager {
                 (self.gap.len() as u64).wrapping_add(1),
             )
         };
-        let mut jam = None;
-        let mut held = self.device.hold(wanted);
-        if let Move::Refused(refusal) = held {
-            if refusal.number == 43 {
-                jam = refusal.jam;
+        let (energy, jam) = match self.device.hold(wanted) {
+            Err(Refusal { number: 43, jam }) => {
                 self.mark = true;
-                held = self.device.hold(self.device.state());
+                (self.device.hold(self.device.state())?, jam)
             }
+            held => (held?, None),
+        };
+        let state = self.device.state();
+        if self.busy {
+            self.busy_ticks.push(state)?;
+        } else {
+            self.gap.push(state)?;
+            self.idle_ticks.push(state)?;
         }
-        match held {
-            Move::Refused(refusal) => Ok(Answer::Refused(refusal)),
-            Move::Drawn(energy) => {
-                let state = self.device.state();
-                if self.busy {
-                    self.busy_ticks.push(state)?;
-                } else {
-                    self.gap.push(state)?;
-                    self.idle_ticks.push(state)?;
-                }
-                Ok(Answer::Ticked { state, energy, jam })
-            }
-        }
+        Ok(Answer::Ticked { state, energy, jam })
     }
 
     /// Closes the open gap, whose device was woken from a state with an energy.
     fn close(&mut self, from: u8, wake: u32) -> Result<Answer, AllocError> {
         let gap = Gap {
-            length: count(&self.gap),
-            energy: self.drawn(&self.gap).wrapping_add(u64::from(wake)),
+            length: count(self.gap.as_slice()),
+            energy: self
+                .drawn(self.gap.as_slice())
+                .wrapping_add(u64::from(wake)),
             floor: table::floor(self.device.levels(), self.gap.len() as u64),
             stuck: self.mark,
             from,
@@ -146,63 +135,68 @@ impl Manager {
     }
 
     /// Works a request.
-    fn request(&mut self) -> Result<Answer, AllocError> {
+    fn request(&mut self) -> Result<Answer, Early<Refusal>> {
         if self.busy {
-            return Ok(Answer::Refused(answer::plainly(21)));
+            return Err(Early::Refused(Refusal::numbered(21)));
         }
         if self.closed.len() >= 1_000_000 {
-            return Ok(Answer::Refused(answer::plainly(24)));
+            return Err(Early::Refused(Refusal::numbered(24)));
         }
         let from = self.device.state();
         match self.device.wake() {
-            Move::Refused(Refusal { number: 43, jam }) => {
+            Err(Refusal { number: 43, jam }) => {
                 self.mark = true;
-                Ok(Answer::Refused(Refusal { number: 31, jam }))
+                Err(Early::Refused(Refusal { number: 31, jam }))
             }
-            Move::Refused(refusal) => Ok(Answer::Refused(refusal)),
-            Move::Drawn(wake) => self.close(from, wake),
+            woken => Ok(self.close(from, woken?)?),
         }
     }
 
     /// Works a release.
-    fn release(&mut self, manager: u16, count: u32) -> Answer {
+    fn release(&mut self, manager: u16, count: u32) -> Result<Answer, Refusal> {
         if self.busy && manager == self.number && count == self.gaps() {
             self.busy = false;
-            Answer::Released
+            Ok(Answer::Released)
         } else {
-            Answer::Refused(answer::plainly(22))
+            Err(Refusal::numbered(22))
         }
     }
 
     /// Works a report.
-    fn report(&mut self, number: u16, code: u32) -> Answer {
+    fn report(&mut self, number: u16, code: u32) -> Result<Answer, Refusal> {
         if self.device.report(number, code) {
-            Answer::Reported
+            Ok(Answer::Reported)
         } else {
-            Answer::Refused(answer::plainly(25))
+            Err(Refusal::numbered(25))
         }
     }
 
     /// Works one call.
-    pub(crate) fn take(&mut self, step: Step) -> Result<Answer, AllocError> {
+    pub(crate) fn take(&mut self, step: Step) -> Result<Answer, Early<Refusal>> {
         if let Step::Figures = step {
             return Ok(Answer::Shown(self.figures()));
         }
-        if let Some(number) = self.shut {
-            return Ok(Answer::Refused(answer::plainly(number)));
-        }
+        self.attached?;
         match step {
             Step::Tick => self.tick(),
             Step::Request => self.request(),
-            Step::Release { manager, count } => Ok(self.release(manager, count)),
-            Step::Report { number, code } => Ok(self.report(number, code)),
+            Step::Release { manager, count } => Ok(self.release(manager, count)?),
+            Step::Report { number, code } => Ok(self.report(number, code)?),
             Step::Figures => Ok(Answer::Shown(self.figures())),
         }
     }
 
     /// The figures, summed up from the lists.
     pub(crate) fn figures(&self) -> Figures {
-        let mut figures = answer::EMPTY;
+        let mut figures = Figures {
+            busy: self.drawn(self.busy_ticks.as_slice()),
+            pending: self.drawn(self.gap.as_slice()),
+            length: count(self.gap.as_slice()),
+            mark: self.mark,
+            ticks: self.ticks(),
+            gaps: self.gaps(),
+            ..Figures::default()
+        };
         for gap in self.closed.iter() {
             if gap.stuck {
                 figures.stuck = figures.stuck.wrapping_add(gap.energy);
@@ -210,17 +204,15 @@ impl Manager {
                 figures.clean = figures.clean.wrapping_add(gap.energy);
                 figures.floor = figures.floor.wrapping_add(gap.floor);
             }
-            add_one(&mut figures.wakes, gap.from);
+            if let Some(left) = figures.states.get_mut(usize::from(gap.from)) {
+                left.wakes = left.wakes.wrapping_add(1);
+            }
         }
         for state in self.idle_ticks.iter().chain(self.busy_ticks.iter()) {
-            add_one(&mut figures.held, *state);
+            if let Some(held) = figures.states.get_mut(usize::from(*state)) {
+                held.ticks = held.ticks.wrapping_add(1);
+            }
         }
-        figures.busy = self.drawn(&self.busy_ticks);
-        figures.pending = self.drawn(&self.gap);
-        figures.length = count(&self.gap);
-        figures.mark = self.mark;
-        figures.ticks = self.ticks();
-        figures.gaps = self.gaps();
         figures
     }
 }

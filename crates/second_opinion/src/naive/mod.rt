@@ -1,6 +1,9 @@
 //! The naive implementation, written from the documents alone: tables, devices, the manager and the report of a trace.
+//! It is a second opinion, so it shares no code with the library, nor with the naive code of `second`. Refusals go by
+//! their numbers, as in the documents.
 pub mod answer;
 pub mod device;
+pub mod early;
 pub mod managed;
 pub mod report;
 pub mod table;

@@ -1,126 +1,147 @@
 //! The report of a trace.
-use crate::naive::answer::{Answer, Gap, Jam};
+use crate::naive::answer::{Answer, Refusal};
 use crate::naive::device::Device;
+use crate::naive::early;
+use crate::naive::early::Early;
 use crate::naive::managed::Manager;
-use crate::naive::trace;
-use crate::naive::trace::Record;
+use crate::naive::trace::{Note, Record, Records};
 use manager::Step;
 use std::alloc::{AllocError, Global};
+use std::fmt;
 
 /// Where and with which number a run stops.
-#[derive(Clone, Copy)]
+#[derive(Clone, Copy, Debug, PartialEq, Eq)]
 pub struct Stop {
     pub place: usize,
     pub number: u8,
 }
 
 /// What a trace prints, how it stops if it does, and how many gap and jam lines it has.
-#[derive(Drop)]
+#[derive(Debug, Drop)]
 pub struct Report {
     pub text: String,
-    pub stop: Option<Stop>,
+    pub end: Result<(), Stop>,
     pub gaps: u32,
     pub jams: u32,
 }
 
-/// What comes after a record.
-#[derive(Clone, Copy)]
-enum Next {
-    Goes,
-    Ends,
-    Stops(u8),
-}
-
-/// The opening of a trace: its device's number and device, the place behind it and the kind of its last record.
-#[derive(Drop)]
-struct Opening {
-    number: u16,
-    device: Device,
-    place: usize,
-    kind: u16,
-}
-
 /// The manager of a trace, the number of its device, the text so far and the jam lines in it.
-#[derive(Drop)]
+#[derive(Debug, Drop)]
 struct Run {
-    heap: Global,
     number: u16,
     manager: Manager,
     text: String,
     jams: u32,
 }
 
-/// Reads the table and the limit, if there is one.
-fn read_opening(heap: Global, trace: &[u8]) -> Result<Result<Opening, Stop>, AllocError> {
-    let first = match trace::record_at(trace, 0, 0) {
-        Ok(first) => first,
-        Err(number) => return Ok(Err(Stop { place: 0, number })),
-    };
-    let Record::Table { number, rows } = first.record else {
-        return Ok(Err(Stop {
-            place: 0,
-            number: 4,
-        }));
-    };
-    let Some(device) = Device::basic(heap, number, rows)? else {
-        return Ok(Err(Stop {
-            place: 0,
-            number: 15,
-        }));
-    };
-    let place = first.next;
-    if let Ok(second) = trace::record_at(trace, place, 1) {
-        if let Record::Limit(limit) = second.record {
-            return Ok(Ok(Opening {
-                number,
-                device: Device::limited(heap, &device, limit)?,
-                place: second.next,
-                kind: 2,
-            }));
+impl Refusal {
+    /// A stop at a place with the refusal's number.
+    pub(crate) fn at(self, place: usize) -> Stop {
+        Stop {
+            place,
+            number: self.number,
         }
     }
-    Ok(Ok(Opening {
-        number,
-        device,
-        place,
-        kind: 1,
-    }))
+}
+
+impl fmt::Display for Stop {
+    fn fmt<W: fmt::Write>(&self, f: &mut fmt::Formatter<W>) -> fmt::Result {
+        let Stop { place, number } = *self;
+        write!(f, "stop {place} {number}")
+    }
 }
 
 impl Run {
-    /// Adds a gap line.
-    fn add_gap(&mut self, gap: Gap, note: &[u8]) -> Result<(), AllocError> {
-        let mark = if gap.stuck { "stuck" } else { "clean" };
-        let length = gap.length;
-        let energy = gap.energy;
-        let floor = gap.floor;
-        let from = gap.from;
-        let latency = gap.latency;
-        let line = format!(in self.heap; "gap {length} {mark} {energy} {floor} {from} {latency} ")?;
-        self.text.push_str(line.as_str())?;
-        if note.is_empty() {
-            self.text.push('-')?;
+    /// The run on the device that a trace opens with: its table, and a limit, if there is one.
+    fn open(heap: Global, records: &mut Records) -> Result<Run, Early<Refusal>> {
+        let Some(Record::Table { number, rows }) = records.next()? else {
+            return Err(Early::Refused(Refusal::numbered(4)));
+        };
+        let mut device = Device::basic(heap, number, rows)?;
+        let mut ahead = *records;
+        if let Ok(Some(Record::Limit(limit))) = ahead.next() {
+            device = Device::limited(heap, &device, limit)?;
+            *records = ahead;
         }
-        for byte in note.iter() {
-            self.text.push(char::from(*byte))?;
-        }
-        self.text.push('\n')
+        Ok(Run {
+            number,
+            manager: Manager::attach(heap, number, device),
+            text: String::new(heap),
+            jams: 0,
+        })
     }
 
-    /// Adds a jam line.
-    fn add_jam(&mut self, place: usize, jam: Jam) -> Result<(), AllocError> {
-        self.jams = self.jams.wrapping_add(1);
-        let number = jam.number;
-        let code = jam.code;
-        let depth = jam.depth;
-        let from = jam.from;
-        let to = jam.to;
-        let line = format!(in self.heap; "jam {place} {number} {code} {depth} {from} {to}\n")?;
-        self.text.push_str(line.as_str())
+    /// Adds the device line, if the device was attached.
+    fn start(&mut self) -> Result<(), Early<Refusal>> {
+        self.manager.attached()?;
+        let number = self.number;
+        writeln!(self.text, "device {number}")?;
+        Ok(())
     }
 
-    /// Adds the total line and the end line.
-    fn add_total(&mut self) -> Result<(), AllocError> {
+    /// Makes a call that prints nothing.
+    fn call(&mut self, step: Step) -> Result<(), Early<Refusal>> {
+        self.manager.take(step)?;
+        Ok(())
+    }
+
+    /// Refuses a number other than the device's.
+    fn check_number(&self, number: u16) -> Result<(), Refusal> {
+        if number == self.number {
+            Ok(())
+        } else {
+            Err(Refusal::numbered(25))
+        }
+    }
+
+    /// Works ticks.
+    fn ticks(&mut self, count: u32) -> Result<(), Early<Refusal>> {
+        for _ in 0..count {
+            self.call(Step::Tick)?;
+        }
+        Ok(())
+    }
+
+    /// Works a request, and adds a gap line, or a jam line where a fault holds the device up.
+    fn request(&mut self, place: usize, number: u16, note: Note) -> Result<(), Early<Refusal>> {
+        self.check_number(number)?;
+        match self.manager.take(Step::Request) {
+            Ok(Answer::Closed { gap, .. }) => writeln!(self.text, "gap {gap} {note}")?,
+            Err(Early::Refused(Refusal { jam: Some(jam), .. })) => {
+                self.jams = self.jams.wrapping_add(1);
+                writeln!(self.text, "jam {place} {jam}")?;
+            }
+            answer => {
+                answer?;
+            }
+        }
+        Ok(())
+    }
+
+    /// Works a release.
+    fn release(&mut self, number: u16) -> Result<(), Early<Refusal>> {
+        self.check_number(number)?;
+        let count = self.manager.gaps();
+        let manager = self.number;
+        self.call(Step::Release { manager, count })
+    }
+
+    /// Works a record after the opening.
+    fn work(&mut self, place: usize, record: Record) -> Result<(), Early<Refusal>> {
+        match record {
+            Record::Ticks(count) => self.ticks(count),
+            Record::Request { number, note } => self.request(place, number, note),
+            Record::Release(number) => self.release(number),
+            Record::Report { number, code } => self.call(Step::Report { number, code }),
+            Record::Table { .. } | Record::Limit(_) => Err(Early::Refused(Refusal::numbered(4))),
+        }
+    }
+
+    /// Adds the total line and the end line, if no bytes follow.
+    fn end(&mut self, records: &Records) -> Result<(), Early<Stop>> {
+        if records.left() > 0 {
+            return Err(Early::Refused(Refusal::numbered(4).at(records.place())));
+        }
         let figures = self.manager.figures();
         let clean = figures.clean;
         let floor = figures.floor;
@@ -131,133 +152,35 @@ impl Run {
             .wrapping_add(stuck)
             .wrapping_add(busy)
             .wrapping_add(open);
-        let lines = format!(in self.heap;
-            "total {clean} {floor} {stuck} {busy} {open} {sum}\nend\n"
+        writeln!(
+            self.text,
+            "total {clean} {floor} {stuck} {busy} {open} {sum}\nend"
         )?;
-        self.text.push_str(lines.as_str())
+        Ok(())
     }
 
-    /// Adds the device line, or stops if attach was refused.
-    fn start(&mut self) -> Result<Option<u8>, AllocError> {
-        if let Some(number) = self.manager.shut() {
-            return Ok(Some(number));
-        }
-        let number = self.number;
-        let line = format!(in self.heap; "device {number}\n")?;
-        self.text.push_str(line.as_str())?;
-        Ok(None)
-    }
-
-    /// Makes a call that prints nothing.
-    fn call(&mut self, step: Step) -> Result<Next, AllocError> {
-        match self.manager.take(step)? {
-            Answer::Refused(refusal) => Ok(Next::Stops(refusal.number)),
-            _ => Ok(Next::Goes),
-        }
-    }
-
-    /// Works ticks.
-    fn ticks(&mut self, count: u32) -> Result<Next, AllocError> {
-        for _ in 0..count {
-            if let Next::Stops(number) = self.call(Step::Tick)? {
-                return Ok(Next::Stops(number));
-            }
-        }
-        Ok(Next::Goes)
-    }
-
-    /// Works a request.
-    fn request(&mut self, place: usize, number: u16, note: &[u8]) -> Result<Next, AllocError> {
-        if number != self.number {
-            return Ok(Next::Stops(25));
-        }
-        match self.manager.take(Step::Request)? {
-            Answer::Closed { gap, .. } => {
-                self.add_gap(gap, note)?;
-                Ok(Next::Goes)
-            }
-            Answer::Refused(refusal) => match refusal.jam {
-                Some(jam) => {
-                    self.add_jam(place, jam)?;
-                    Ok(Next::Goes)
-                }
-                None => Ok(Next::Stops(refusal.number)),
-            },
-            _ => Ok(Next::Goes),
-        }
-    }
-
-    /// Works a release.
-    fn release(&mut self, number: u16) -> Result<Next, AllocError> {
-        if number != self.number {
-            return Ok(Next::Stops(25));
-        }
-        let count = self.manager.gaps();
-        let manager = self.number;
-        self.call(Step::Release { manager, count })
-    }
-
-    /// Works a record after the opening.
-    fn work(&mut self, place: usize, record: Record) -> Result<Next, AllocError> {
-        match record {
-            Record::Ticks(count) => self.ticks(count),
-            Record::Request { number, note } => self.request(place, number, note),
-            Record::Release(number) => self.release(number),
-            Record::Report { number, code } => self.call(Step::Report { number, code }),
-            Record::End => Ok(Next::Ends),
-            Record::Table { .. } => Ok(Next::Stops(4)),
-            Record::Limit(_) => Ok(Next::Stops(4)),
-        }
-    }
-
-    /// Ends the run at a place in a trace of so many bytes, or stops if bytes follow.
-    fn end(&mut self, place: usize, len: usize) -> Result<Option<Stop>, AllocError> {
-        if place < len {
-            return Ok(Some(Stop { place, number: 4 }));
-        }
-        self.add_total()?;
-        Ok(None)
-    }
-
-    /// Works all records from a place on; where it stops, if it does.
-    fn all(&mut self, trace: &[u8], start: usize, kind: u16) -> Result<Option<Stop>, AllocError> {
-        let mut place = start;
-        let mut before = kind;
-        for _ in 0..=trace.len() {
-            let found = match trace::record_at(trace, place, before) {
-                Ok(found) => found,
-                Err(number) => return Ok(Some(Stop { place, number })),
+    /// Works all records behind the opening. The first of them is read before the device is known to be attached.
+    fn all(&mut self, records: &mut Records) -> Result<(), Early<Stop>> {
+        let mut place = records.place();
+        let mut next = records.next().map_err(|refusal| refusal.at(place))?;
+        self.start().map_err(|early| early.at(0))?;
+        for _ in 0..=records.left() {
+            let Some(record) = next else {
+                return self.end(records);
             };
-            if place == start {
-                if let Some(number) = self.start()? {
-                    return Ok(Some(Stop { place: 0, number }));
-                }
-            }
-            match self.work(place, found.record)? {
-                Next::Goes => {
-                    place = found.next;
-                    before = found.kind;
-                }
-                Next::Stops(number) => return Ok(Some(Stop { place, number })),
-                Next::Ends => return self.end(found.next, trace.len()),
-            }
+            self.work(place, record).map_err(|early| early.at(place))?;
+            place = records.place();
+            next = records.next().map_err(|refusal| refusal.at(place))?;
         }
-        Ok(None)
+        Ok(())
     }
-}
-
-/// The text of a stop line.
-fn stop_line(heap: Global, stop: Stop) -> Result<String, AllocError> {
-    let place = stop.place;
-    let number = stop.number;
-    format!(in heap; "stop {place} {number}\n")
 }
 
 /// A report that is a stop line only.
 fn only_stop(heap: Global, stop: Stop) -> Result<Report, AllocError> {
     Ok(Report {
-        text: stop_line(heap, stop)?,
-        stop: Some(stop),
+        text: format!(in heap; "{stop}\n")?,
+        end: Err(stop),
         gaps: 0,
         jams: 0,
     })
@@ -266,36 +189,21 @@ fn only_stop(heap: Global, stop: Stop) -> Result<Report, AllocError> {
 /// The report of a trace.
 pub(crate) fn report_of(heap: Global, trace: &[u8]) -> Result<Report, AllocError> {
     if trace.len() > 65_536 {
-        let place = 65_536;
-        return only_stop(heap, Stop { place, number: 5 });
+        return only_stop(heap, Refusal::numbered(5).at(65_536));
     }
-    match read_opening(heap, trace)? {
-        Err(stop) => only_stop(heap, stop),
-        Ok(opening) => {
-            let Opening {
-                number,
-                device,
-                place,
-                kind,
-            } = opening;
-            let mut run = Run {
-                heap,
-                number,
-                manager: Manager::attach(heap, number, device),
-                text: String::new(heap),
-                jams: 0,
-            };
-            let stop = run.all(trace, place, kind)?;
-            if let Some(stop) = stop {
-                let line = stop_line(heap, stop)?;
-                run.text.push_str(line.as_str())?;
-            }
-            Ok(Report {
-                stop,
-                gaps: run.manager.gaps(),
-                jams: run.jams,
-                text: run.text,
-            })
-        }
+    let mut records = Records::new(trace);
+    let mut run = match early::outcome(Run::open(heap, &mut records))? {
+        Ok(run) => run,
+        Err(refusal) => return only_stop(heap, refusal.at(0)),
+    };
+    let end = early::outcome(run.all(&mut records))?;
+    if let Err(stop) = end {
+        writeln!(run.text, "{stop}")?;
     }
+    Ok(Report {
+        end,
+        gaps: run.manager.gaps(),
+        jams: run.jams,
+        text: run.text,
+    })
 }

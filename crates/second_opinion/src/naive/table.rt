@@ -1,145 +1,128 @@
 //! State tables as lists of levels, and what follows from a table alone.
+use crate::naive::answer::Refusal;
 use std::alloc::{AllocError, Global};
 
 /// Power, wake energy and latency of a state.
-#[derive(Clone, Copy)]
+#[derive(Clone, Copy, Debug, Default, PartialEq, Eq)]
 pub struct Level {
     pub power: u32,
     pub wake: u32,
     pub latency: u32,
 }
 
-/// What stands for a level that is not there.
-const NOTHING: Level = Level {
-    power: 0,
-    wake: 0,
-    latency: 0,
-};
+/// What a rail draws: in each state but the deepest, and to wake from that.
+#[derive(Clone, Copy, Debug, PartialEq, Eq)]
+pub struct Rail {
+    pub power: u32,
+    pub energy: u32,
+}
 
 /// The number in four bytes from a place on, the lowest byte first.
-fn number_at(bytes: &[u8], place: usize) -> u32 {
-    let mut number = 0u32;
-    for i in 0usize..4 {
-        let at = place.wrapping_add(3usize.wrapping_sub(i));
-        let byte = bytes.get(at).copied().unwrap_or(0);
-        number = number.wrapping_mul(256).wrapping_add(u32::from(byte));
+fn number_at(row: &[u8], place: usize) -> u32 {
+    row.get(place..)
+        .and_then(|rest| rest.first_chunk::<4>())
+        .map_or(0, |bytes| u32::from_le_bytes(*bytes))
+}
+
+/// The level of a row of 12 bytes.
+fn level_of(row: &[u8]) -> Level {
+    Level {
+        power: number_at(row, 0),
+        wake: number_at(row, 4),
+        latency: number_at(row, 8),
     }
-    number
 }
 
 /// The levels of rows of 12 bytes.
 pub(crate) fn levels_of(heap: Global, rows: &[u8]) -> Result<Vec<Level>, AllocError> {
-    let mut levels = Vec::new(heap);
-    for state in 0..rows.len() / 12 {
-        let place = state.wrapping_mul(12);
-        levels.push(Level {
-            power: number_at(rows, place),
-            wake: number_at(rows, place.wrapping_add(4)),
-            latency: number_at(rows, place.wrapping_add(8)),
-        })?;
-    }
-    Ok(levels)
+    rows.chunks_exact(12).map(level_of).collect(heap)
 }
 
 /// The number of the deepest state.
-pub(crate) fn deepest(levels: &Vec<Level>) -> u8 {
+pub(crate) fn deepest(levels: &[Level]) -> u8 {
     (levels.len().saturating_sub(1) & 0xff) as u8
 }
 
 /// The level of a state; beyond the deepest that of the deepest.
-pub(crate) fn level_at(levels: &Vec<Level>, state: u8) -> Level {
+pub(crate) fn level_at(levels: &[Level], state: u8) -> Level {
     let state = state.min(deepest(levels));
-    levels.get(usize::from(state)).copied().unwrap_or(NOTHING)
+    levels.get(usize::from(state)).copied().unwrap_or_default()
 }
 
 /// The levels up to the first state after state 0 whose latency is above a limit.
 pub(crate) fn limited(
     heap: Global,
-    levels: &Vec<Level>,
+    levels: &[Level],
     limit: u32,
 ) -> Result<Vec<Level>, AllocError> {
-    let mut shown = Vec::new(heap);
-    let mut slow = false;
-    for (state, level) in levels.iter().enumerate() {
-        if state > 0 && level.latency > limit {
-            slow = true;
-        }
-        if !slow {
-            shown.push(*level)?;
-        }
-    }
-    Ok(shown)
+    let awake = levels.iter().take(1);
+    let asleep = levels.iter().skip(1);
+    awake
+        .chain(asleep.take_while(|level| level.latency <= limit))
+        .copied()
+        .collect(heap)
 }
 
 /// The levels of two tables behind a rail.
 pub(crate) fn joined(
     heap: Global,
-    first: &Vec<Level>,
-    second: &Vec<Level>,
-    rail_power: u32,
-    rail_energy: u32,
+    first: &[Level],
+    second: &[Level],
+    rail: Rail,
 ) -> Result<Vec<Level>, AllocError> {
-    let mut levels = Vec::new(heap);
     let last = deepest(first).max(deepest(second));
-    for state in 0..=last {
-        let one = level_at(first, state);
-        let other = level_at(second, state);
-        let power = one.power.saturating_add(other.power);
-        let wake = one.wake.saturating_add(other.wake);
-        let latency = one.latency.max(other.latency);
-        levels.push(if state == last {
+    (0..=last)
+        .map(|state| {
+            let one = level_at(first, state);
+            let other = level_at(second, state);
+            let power = one.power.saturating_add(other.power);
+            let wake = one.wake.saturating_add(other.wake);
+            let (power, wake) = if state == last {
+                (power, wake.saturating_add(rail.energy))
+            } else {
+                (power.saturating_add(rail.power), wake)
+            };
             Level {
                 power,
-                wake: wake.saturating_add(rail_energy),
-                latency,
-            }
-        } else {
-            Level {
-                power: power.saturating_add(rail_power),
                 wake,
-                latency,
+                latency: one.latency.max(other.latency),
             }
-        })?;
-    }
-    Ok(levels)
+        })
+        .collect(heap)
 }
 
 /// Whether some number of a table is above its maximum.
-fn has_too_large(levels: &Vec<Level>) -> bool {
-    for level in levels.iter() {
-        if level.power > 1_000_000 || level.wake > 1_000_000_000 || level.latency > 100_000 {
-            return true;
-        }
-    }
-    false
+fn has_too_large(levels: &[Level]) -> bool {
+    levels.iter().any(|level| {
+        level.power > 1_000_000 || level.wake > 1_000_000_000 || level.latency > 100_000
+    })
 }
 
 /// Whether the states of a table are in a wrong order.
-fn has_wrong_order(levels: &Vec<Level>) -> bool {
+fn has_wrong_order(levels: &[Level]) -> bool {
     let first = level_at(levels, 0);
-    if first.wake != 0 || first.latency != 0 {
-        return true;
-    }
-    for state in 1..=deepest(levels) {
-        let before = level_at(levels, state.wrapping_sub(1));
-        let here = level_at(levels, state);
-        if here.power >= before.power || here.wake <= before.wake || here.latency < before.latency {
-            return true;
-        }
-    }
-    false
+    first.wake != 0
+        || first.latency != 0
+        || levels.windows(2).any(|pair| match pair {
+            [before, here] => {
+                here.power >= before.power
+                    || here.wake <= before.wake
+                    || here.latency < before.latency
+            }
+            _ => false,
+        })
 }
 
-/// The number with which a table is refused as unfit, if it is.
-pub(crate) fn unfitness(levels: &Vec<Level>) -> Option<u8> {
+/// Whether a table is fit, or the refusal of one that is not.
+pub(crate) fn fitness(levels: &[Level]) -> Result<(), Refusal> {
     if levels.len() < 2 || levels.len() > 16 {
-        Some(12)
+        Err(Refusal::numbered(12))
     } else if has_too_large(levels) {
-        Some(13)
+        Err(Refusal::numbered(13))
     } else if has_wrong_order(levels) {
-        Some(14)
+        Err(Refusal::numbered(14))
     } else {
-        None
+        Ok(())
     }
 }
 
@@ -149,24 +132,20 @@ fn cost(level: Level, length: u64) -> u64 {
 }
 
 /// The shallowest state of least cost at a gap's length.
-pub(crate) fn envelope(levels: &Vec<Level>, length: u64) -> u8 {
-    let mut best = 0u8;
-    for state in 0..=deepest(levels) {
-        if cost(level_at(levels, state), length) < cost(level_at(levels, best), length) {
-            best = state;
-        }
-    }
-    best
+pub(crate) fn envelope(levels: &[Level], length: u64) -> u8 {
+    (0..=deepest(levels))
+        .min_by_key(|state| cost(level_at(levels, *state), length))
+        .unwrap_or(0)
 }
 
 /// The floor of a gap: the least cost at its length, 0 for a gap of no ticks.
-pub(crate) fn floor(levels: &Vec<Level>, length: u64) -> u64 {
+pub(crate) fn floor(levels: &[Level], length: u64) -> u64 {
     if length == 0 {
         return 0;
     }
-    let mut least = u64::MAX;
-    for level in levels.iter() {
-        least = least.min(cost(*level, length));
-    }
-    least
+    levels
+        .iter()
+        .map(|level| cost(*level, length))
+        .min()
+        .unwrap_or(u64::MAX)
 }

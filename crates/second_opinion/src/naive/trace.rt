@@ -1,121 +1,167 @@
 //! The records of a trace, read one by one.
+use crate::naive::answer::Refusal;
+use std::fmt;
 
-/// A record that has passed its checks.
-#[derive(Clone, Copy)]
+/// A kind of record, with its number.
+#[derive(Clone, Copy, Debug, PartialEq, Eq)]
+pub enum Kind {
+    Table = 1,
+    Limit,
+    Ticks,
+    Request,
+    Release,
+    Report,
+    End,
+}
+
+/// The note of a request.
+#[derive(Clone, Copy, Debug)]
+pub struct Note<'a>(&'a [u8]);
+
+/// A record that has passed its checks, but for the end.
+#[derive(Clone, Copy, Debug)]
 pub enum Record<'a> {
     Table { number: u16, rows: &'a [u8] },
     Limit(u32),
     Ticks(u32),
-    Request { number: u16, note: &'a [u8] },
+    Request { number: u16, note: Note<'a> },
     Release(u16),
     Report { number: u16, code: u32 },
-    End,
 }
 
-/// A record, its kind and the place of the byte after it.
-#[derive(Clone, Copy)]
-pub struct Found<'a> {
-    pub record: Record<'a>,
-    pub kind: u16,
-    pub next: usize,
+/// A trace, the place up to which it was read, and the kind of the last record, if there was one.
+#[derive(Clone, Copy, Debug)]
+pub struct Records<'a> {
+    trace: &'a [u8],
+    place: usize,
+    before: Option<Kind>,
 }
 
-/// Two bytes as a number, the lowest first.
-fn two(low: u8, high: u8) -> u16 {
-    u16::from(low).wrapping_add(u16::from(high).wrapping_mul(256))
+impl Kind {
+    /// The kind with a number, which is refused where there is none.
+    fn numbered(number: u16) -> Result<Kind, Refusal> {
+        match number {
+            1 => Ok(Kind::Table),
+            2 => Ok(Kind::Limit),
+            3 => Ok(Kind::Ticks),
+            4 => Ok(Kind::Request),
+            5 => Ok(Kind::Release),
+            6 => Ok(Kind::Report),
+            7 => Ok(Kind::End),
+            _ => Err(Refusal::numbered(2)),
+        }
+    }
+
+    /// Whether a record of this kind may follow one of another kind, or begin a trace.
+    fn may_follow(self, before: Option<Kind>) -> bool {
+        match before {
+            None => self == Kind::Table,
+            Some(Kind::Table) => self != Kind::Table,
+            Some(_) => self != Kind::Table && self != Kind::Limit,
+        }
+    }
 }
 
-/// Four bytes as a number, the lowest first.
-fn four(a: u8, b: u8, c: u8, d: u8) -> u32 {
-    u32::from(two(a, b)).wrapping_add(u32::from(two(c, d)).wrapping_mul(65_536))
-}
-
-/// Whether a record of a kind may follow one of another kind, 0 for none.
-fn may_follow(before: u16, kind: u16) -> bool {
-    match before {
-        0 => kind == 1,
-        1 => kind >= 2,
-        _ => kind >= 3,
+impl<'a> fmt::Display for Note<'a> {
+    fn fmt<W: fmt::Write>(&self, f: &mut fmt::Formatter<W>) -> fmt::Result {
+        if self.0.is_empty() {
+            write!(f, "-")?;
+        }
+        for byte in self.0 {
+            let character = char::from(*byte);
+            write!(f, "{character}")?;
+        }
+        Ok(())
     }
 }
 
 /// The table of a body, if it is one.
-fn table<'a>(number: u16, count: u8, rows: &'a [u8]) -> Option<Record<'a>> {
-    let wanted = usize::from(count).wrapping_mul(12);
-    if count >= 1 && count <= 16 && rows.len() == wanted {
-        Some(Record::Table { number, rows })
+fn table<'a>(number: u16, count: u8, rows: &'a [u8]) -> Result<Record<'a>, Refusal> {
+    if count >= 1 && count <= 16 && rows.len() == usize::from(count) * 12 {
+        Ok(Record::Table { number, rows })
     } else {
-        None
+        Err(Refusal::numbered(3))
     }
 }
 
 /// The ticks of a body, if their count is in range.
-fn ticks<'a>(count: u32) -> Option<Record<'a>> {
+fn ticks<'a>(count: u32) -> Result<Record<'a>, Refusal> {
     if count >= 1 && count <= 1_000_000 {
-        Some(Record::Ticks(count))
+        Ok(Record::Ticks(count))
     } else {
-        None
+        Err(Refusal::numbered(3))
     }
 }
 
 /// The request of a body, if its note is one.
-fn request<'a>(number: u16, note: &'a [u8]) -> Option<Record<'a>> {
-    if note.len() > 16 {
-        return None;
+fn request<'a>(number: u16, note: &'a [u8]) -> Result<Record<'a>, Refusal> {
+    if note.len() <= 16 && note.iter().all(|byte| *byte >= 33 && *byte <= 126) {
+        let note = Note(note);
+        Ok(Record::Request { number, note })
+    } else {
+        Err(Refusal::numbered(3))
     }
-    for byte in note.iter() {
-        if *byte < 33 || *byte > 126 {
-            return None;
+}
+
+/// The record of a kind with a body, none for the end; refused if the body is not right.
+fn content<'a>(kind: Kind, body: &'a [u8]) -> Result<Option<Record<'a>>, Refusal> {
+    let record = match (kind, body) {
+        (Kind::Table, [a, b, count, rows @ ..]) => {
+            table(u16::from_le_bytes([*a, *b]), *count, rows)?
+        }
+        (Kind::Limit, [a, b, c, d]) => Record::Limit(u32::from_le_bytes([*a, *b, *c, *d])),
+        (Kind::Ticks, [a, b, c, d]) => ticks(u32::from_le_bytes([*a, *b, *c, *d]))?,
+        (Kind::Request, [a, b, note @ ..]) => request(u16::from_le_bytes([*a, *b]), note)?,
+        (Kind::Release, [a, b]) => Record::Release(u16::from_le_bytes([*a, *b])),
+        (Kind::Report, [a, b, c, d, e, f]) => Record::Report {
+            number: u16::from_le_bytes([*a, *b]),
+            code: u32::from_le_bytes([*c, *d, *e, *f]),
+        },
+        (Kind::End, []) => return Ok(None),
+        _ => return Err(Refusal::numbered(3)),
+    };
+    Ok(Some(record))
+}
+
+impl<'a> Records<'a> {
+    /// The records of a trace, none of which is read yet.
+    pub(crate) fn new(trace: &'a [u8]) -> Records<'a> {
+        Records {
+            trace,
+            place: 0,
+            before: None,
         }
     }
-    Some(Record::Request { number, note })
-}
 
-/// The record of a known kind with a body, if the body is right.
-fn content<'a>(kind: u16, body: &'a [u8]) -> Option<Record<'a>> {
-    match (kind, body) {
-        (1, [a, b, count, rows @ ..]) => table(two(*a, *b), *count, rows),
-        (2, [a, b, c, d]) => Some(Record::Limit(four(*a, *b, *c, *d))),
-        (3, [a, b, c, d]) => ticks(four(*a, *b, *c, *d)),
-        (4, [a, b, note @ ..]) => request(two(*a, *b), note),
-        (5, [a, b]) => Some(Record::Release(two(*a, *b))),
-        (6, [a, b, c, d, e, f]) => Some(Record::Report {
-            number: two(*a, *b),
-            code: four(*c, *d, *e, *f),
-        }),
-        (7, []) => Some(Record::End),
-        _ => None,
+    /// The place of the next record.
+    pub(crate) fn place(&self) -> usize {
+        self.place
     }
-}
 
-/// The record at a place after one of a kind, 0 for none; or the number with which it is refused.
-pub(crate) fn record_at<'a>(trace: &'a [u8], place: usize, before: u16) -> Result<Found<'a>, u8> {
-    let Some(rest) = trace.get(place..) else {
-        return Err(1);
-    };
-    let [length_low, length_high, kind_low, kind_high, behind @ ..] = rest else {
-        return Err(1);
-    };
-    let length = usize::from(two(*length_low, *length_high));
-    if length < 2 {
-        return Err(3);
+    /// How many bytes are not read yet.
+    pub(crate) fn left(&self) -> usize {
+        self.trace.len().saturating_sub(self.place)
     }
-    let Some(body) = behind.get(0..length.wrapping_sub(2)) else {
-        return Err(1);
-    };
-    let kind = two(*kind_low, *kind_high);
-    if kind < 1 || kind > 7 {
-        return Err(2);
-    }
-    if !may_follow(before, kind) {
-        return Err(4);
-    }
-    match content(kind, body) {
-        Some(record) => Ok(Found {
-            record,
-            kind,
-            next: place.wrapping_add(2).wrapping_add(length),
-        }),
-        None => Err(3),
+
+    /// Reads the next record, none for the end. A record that is refused is not read.
+    pub(crate) fn next(&mut self) -> Result<Option<Record<'a>>, Refusal> {
+        let cut_short = Refusal::numbered(1);
+        let rest = self.trace.get(self.place..).ok_or(cut_short)?;
+        let [length_low, length_high, kind_low, kind_high, behind @ ..] = rest else {
+            return Err(cut_short);
+        };
+        let length = usize::from(u16::from_le_bytes([*length_low, *length_high]));
+        if length < 2 {
+            return Err(Refusal::numbered(3));
+        }
+        let body = behind.get(..length - 2).ok_or(cut_short)?;
+        let kind = Kind::numbered(u16::from_le_bytes([*kind_low, *kind_high]))?;
+        if !kind.may_follow(self.before) {
+            return Err(Refusal::numbered(4));
+        }
+        let record = content(kind, body)?;
+        self.place = self.place.wrapping_add(2).wrapping_add(length);
+        self.before = Some(kind);
+        Ok(record)
     }
 }

@@ -1,0 +1,2 @@
+mod FiguresLemmas
+mod LateLemmas

@@ -1,0 +1,4 @@
+pub mod FaultWords
+pub mod Late
+pub mod Numbers
+pub mod Told

@@ -1,0 +1,53 @@
+//! An account as plain numbers, so that those of different managers can be compared.
+ghost use Rattle.samples.specs.Told.{IsTold};
+
+use manager::Account;
+
+/// The ticks held in a state, and the wakes from it.
+#[derive(Clone, Copy, Debug, Default, PartialEq, Eq)]
+pub struct StateFigures {
+    pub ticks: u32,
+    pub wakes: u32,
+}
+
+/// An account as plain numbers, with the figures of each of sixteen states.
+#[derive(Clone, Copy, Debug, Default, PartialEq, Eq)]
+pub struct Figures {
+    pub clean: u64,
+    pub floor: u64,
+    pub stuck: u64,
+    pub busy: u64,
+    pub pending: u64,
+    pub length: u32,
+    pub mark: bool,
+    pub ticks: u32,
+    pub gaps: u32,
+    pub states: [StateFigures; 16],
+}
+
+impl From<Account> for Figures {
+    ghost from_gives = { λ account figures. IsTold account figures };
+
+    fn from(account: Account) -> Figures {
+        let mut states = [StateFigures::default(); 16];
+        for state in 0u8..16 {
+            let tally = account.tallies.of(state);
+            states[usize::from(state)] = StateFigures {
+                ticks: tally.ticks,
+                wakes: tally.wakes,
+            };
+        }
+        Figures {
+            clean: account.clean,
+            floor: account.floor,
+            stuck: account.stuck,
+            busy: account.busy,
+            pending: account.pending,
+            length: account.length,
+            mark: account.mark,
+            ticks: account.ticks,
+            gaps: account.gaps,
+            states,
+        }
+    }
+}

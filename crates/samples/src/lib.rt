@@ -1,0 +1,15 @@
+//! What the sample programs share: the rows of two devices, pseudo-random numbers, an account as plain numbers, the
+//! text of a fault, and what a mistaken rule draws.
+#![tactic(auto)]
+
+mod fault_text;
+mod figures;
+mod late;
+mod random;
+mod rows;
+
+pub use fault_text::FaultText;
+pub use figures::{Figures, StateFigures};
+pub use late::receiver_gap;
+pub use random::Random;
+pub use rows::{MODEM, RECEIVER};
