@@ -2,7 +2,7 @@
 //! Each answer is printed on a line of its own.
 #![tactic(auto)]
 
-use devices::{Device, Joined, LatencyLimit, Refusal, TableDevice};
+use devices::{Device, Joined, LatencyLimit, Rail, Refusal, TableDevice};
 use samples::{FaultText, MODEM, RECEIVER};
 use states::StateTable;
 use std::io;
@@ -65,7 +65,11 @@ fn run(rt: &HostRuntime, device: &mut impl Device) -> io::Result<()> {
 
 /// Piles limit, pair and limit over the two devices, and runs the pile.
 fn show_pile(rt: &HostRuntime, modem: TableDevice, receiver: TableDevice) -> io::Result<()> {
-    let pair = Joined::new(LatencyLimit::new(modem, 9), receiver, 2, 5);
+    let rail = Rail {
+        power: 2,
+        energy: 5,
+    };
+    let pair = Joined::new(LatencyLimit::new(modem, 9), receiver, rail);
     let mut pile = LatencyLimit::new(pair, 10);
     show_table(rt, &pile)?;
     run(rt, &mut pile)?;

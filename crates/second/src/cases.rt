@@ -1,4 +1,5 @@
 //! Pseudo-random piles of devices and lists of calls.
+use devices::Rail;
 use manager::Step;
 use samples::Random;
 use std::alloc::{AllocError, Global};
@@ -16,13 +17,6 @@ pub enum Pile {
     LimitOnPair,
     /// A limit over a table device, and another table device, behind a rail.
     PairOfLimit,
-}
-
-/// What a rail draws: in each state but the deepest, and to wake from that.
-#[derive(Clone, Copy, Debug, PartialEq, Eq)]
-pub struct Rail {
-    pub power: u32,
-    pub energy: u32,
 }
 
 /// A pile: which devices, over which rows.

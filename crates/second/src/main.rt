@@ -6,7 +6,7 @@
 mod cases;
 mod plain;
 
-use cases::{Pile, Rail, Shape};
+use cases::{Pile, Shape};
 use devices::{Device, Joined, LatencyLimit, TableDevice};
 use manager::{Step, account_after};
 use plain::{ClosedGaps, PARTS, Plain};
@@ -25,11 +25,6 @@ fn library<D: Device + Drop>(device: D, steps: &[Step]) -> Figures {
     Figures::from(account_after(MANAGER, device, steps))
 }
 
-/// Two devices behind a rail.
-fn pair<A, B>(first: A, second: B, rail: Rail) -> Joined<A, B> {
-    Joined::new(first, second, rail.power, rail.energy)
-}
-
 /// The library's figures of a pile of this shape, if its rows make devices.
 fn library_figures(shape: &Shape, steps: &[Step]) -> Option<Figures> {
     let [first, second] = PARTS;
@@ -39,14 +34,14 @@ fn library_figures(shape: &Shape, steps: &[Step]) -> Option<Figures> {
     Some(match shape.pile {
         Pile::Table => library(first, steps),
         Pile::Limit => library(LatencyLimit::new(first, limit), steps),
-        Pile::Pair => library(pair(first, second, shape.rail), steps),
+        Pile::Pair => library(Joined::new(first, second, shape.rail), steps),
         Pile::LimitOnPair => {
-            let pair = pair(first, second, shape.rail);
+            let pair = Joined::new(first, second, shape.rail);
             library(LatencyLimit::new(pair, limit), steps)
         }
         Pile::PairOfLimit => {
             let quick = LatencyLimit::new(first, limit);
-            library(pair(quick, second, shape.rail), steps)
+            library(Joined::new(quick, second, shape.rail), steps)
         }
     })
 }

@@ -1,7 +1,8 @@
 //! The naive implementation: the rows of the whole pile are worked out once, least costs are found by trying every
 //! state, a gap is the list of its ticks, and the figures are summed up from the closed gaps when they are asked for.
 //! It is a second opinion, so it shares no code with the library, nor with the naive code of `second_opinion`.
-use crate::cases::{Pile, Rail, Shape};
+use crate::cases::{Pile, Shape};
+use devices::Rail;
 use manager::Step;
 use samples::Figures;
 use std::alloc::{AllocError, Global};

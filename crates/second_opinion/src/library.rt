@@ -67,30 +67,32 @@ impl From<ClosedGap> for Gap {
     }
 }
 
-/// The answer of a manager to a call, unless it refused.
-impl TryFrom<Reply> for Answer {
-    type Error = Refusal;
-
-    fn try_from(reply: Reply) -> Result<Answer, Refusal> {
+/// The answer of a manager to an accepted call.
+impl From<Reply> for Answer {
+    fn from(reply: Reply) -> Answer {
         match reply {
-            Reply::Ticked(ticked) => Ok(Answer::Ticked {
+            Reply::Ticked(ticked) => Answer::Ticked {
                 state: ticked.state,
                 energy: ticked.energy,
                 jam: ticked.fault.map(Jam::from),
-            }),
+            },
             Reply::Closed {
                 manager,
                 count,
                 gap,
-            } => Ok(Answer::Closed {
+            } => Answer::Closed {
                 manager,
                 count,
                 gap: Gap::from(gap),
-            }),
-            Reply::Released => Ok(Answer::Released),
-            Reply::Reported => Ok(Answer::Reported),
-            Reply::Shown(account) => Ok(Answer::Shown(Figures::from(account))),
-            Reply::Refused(refusal) => Err(Refusal::from(refusal)),
+            },
+            Reply::Released => Answer::Released,
+            Reply::Reported => Answer::Reported,
+            Reply::Shown(account) => Answer::Shown(Figures::from(account)),
         }
     }
+}
+
+/// The answer of a manager to a call.
+pub(crate) fn answer_of(reply: Result<Reply, manager::Refusal>) -> Result<Answer, Refusal> {
+    reply.map(Answer::from).map_err(Refusal::from)
 }

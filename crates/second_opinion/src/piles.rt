@@ -1,9 +1,8 @@
 //! Trials on piles of devices of all shapes.
 use crate::bench::Bench;
-use crate::naive::table::Rail;
 use crate::twin::Twin;
 use crate::{rows, twin};
-use devices::{Device, Joined, LatencyLimit, TableDevice};
+use devices::{Device, Joined, LatencyLimit, Rail, TableDevice};
 use std::alloc::AllocError;
 use std::fmt;
 

@@ -4,7 +4,7 @@ use crate::naive::answer::{Answer, Refusal};
 use crate::naive::device::Device;
 use crate::naive::early;
 use crate::naive::managed::Manager;
-use crate::twin;
+use crate::{library, twin};
 use devices::TableDevice;
 use manager::{Step, replies_to};
 use samples::{MODEM, RECEIVER, receiver_gap};
@@ -28,7 +28,7 @@ fn answers(
     };
     replies_to(bench.heap, MANAGER, device, steps)?
         .iter()
-        .map(|reply| Answer::try_from(*reply))
+        .map(|reply| library::answer_of(*reply))
         .collect(bench.heap)
 }
 

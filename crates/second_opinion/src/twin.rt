@@ -5,10 +5,9 @@ use crate::naive::answer::{Answer, Refusal};
 use crate::naive::device::Part;
 use crate::naive::early;
 use crate::naive::managed::Manager;
-use crate::naive::table::Rail;
 use crate::tried::{Tried, more};
-use crate::{calls, naive};
-use devices::{Device, Joined, LatencyLimit, TableDevice};
+use crate::{calls, library, naive};
+use devices::{Device, Joined, LatencyLimit, Rail, TableDevice};
 use manager::{Step, replies_to};
 use states::StateTable;
 use std::alloc::{AllocError, Global};
@@ -69,7 +68,7 @@ pub(crate) fn joined<D: Device + Drop, E: Device + Drop>(
     let Twin { device: one, .. } = first;
     let Twin { device: other, .. } = second;
     Ok(Twin {
-        device: Joined::new(one, other, rail.power, rail.energy),
+        device: Joined::new(one, other, rail),
         plain,
     })
 }
@@ -187,7 +186,7 @@ pub(crate) fn compare_answers<D: Device + Drop>(
     more(&mut tried.lists);
     tried.answers.note(replies.len() == answers.len());
     for (reply, answer) in replies.iter().zip(answers.iter()) {
-        tried.answers.note(Answer::try_from(*reply) == *answer);
+        tried.answers.note(library::answer_of(*reply) == *answer);
         tried.note_answer(answer);
     }
     Ok(())

@@ -3,7 +3,8 @@
 use crate::naive::answer::{Jam, Refusal};
 use crate::naive::early::Early;
 use crate::naive::table;
-use crate::naive::table::{Level, Rail};
+use crate::naive::table::Level;
+use devices::Rail;
 use std::alloc::{AllocError, Global};
 
 /// A basic device in a pile.

@@ -1,5 +1,6 @@
 //! State tables as lists of levels, and what follows from a table alone.
 use crate::naive::answer::Refusal;
+use devices::Rail;
 use std::alloc::{AllocError, Global};
 
 /// Power, wake energy and latency of a state.
@@ -8,13 +9,6 @@ pub struct Level {
     pub power: u32,
     pub wake: u32,
     pub latency: u32,
-}
-
-/// What a rail draws: in each state but the deepest, and to wake from that.
-#[derive(Clone, Copy, Debug, PartialEq, Eq)]
-pub struct Rail {
-    pub power: u32,
-    pub energy: u32,
 }
 
 /// The number in four bytes from a place on, the lowest byte first.
