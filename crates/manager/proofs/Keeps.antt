@@ -1,10 +1,9 @@
 -- What calls leave as it is, from every manager: what a lease hangs on, and what a refusal does not touch.
 use Rattle.std.proofs.Common.{◌≡◌, ℕ, zero, suc, ◌&&◌, eqb, leb, replicate, Some, None, Option, sym, refl, ap, ◌∙◌, subst, arith}
 use Rattle.std.proofs.lemmas.Bool.{cond_both, cond-true, and_from, eq-eqb}
-use Rattle.devices.specs.Meaning.{Refused, hold_refusal, wake_refusal, bears}
+use Rattle.devices.specs.Meaning.{Refused, hold_refusal, bears}
 use Rattle.manager.specs.declared.account.Account.{Account}
-use Rattle.manager.specs.Charges.{marked}
-use Rattle.manager.specs.Rules.{Condition, shut, idle, busy, Managed, tick, request, release, report, refused, Outcome, holding, idle_tick_by, aim, tick_in, waking, request_in, release_in, freed, reporting, report_in, done}
+use Rattle.manager.specs.Rules.{Condition, shut, idle, busy, Managed, tick, release, report, refused, Outcome, holding, idle_tick_by, aim, tick_in, release_in, freed, reporting, report_in, done}
 use Rattle.manager.specs.Runs.{finally}
 use Rattle.manager.specs.Meaning.{Waits, KeepsLease}
 
@@ -47,37 +46,6 @@ module _ (m : Managed) where
 
   pub report_terms : (number code : ℕ) → SameTerms m (done m (report number code)).after
   report_terms number code = report_in_terms m.condition number code
-
-  -- a refused request keeps them
-  roused_terms : (r : Refused) → SameTerms m (waking m (Some r)).after
-  roused_terms r = record { condition = refl; number = refl; gaps = cond_both (eqb r.number 43) (marked m.account) m.account (λ (a : Account). a.gaps ≡ m.account.gaps) (λ _. refl) (λ _. refl) }
-
-  waking_terms : (move : Option Refused) (w : Refused) → (waking m move).answer ≡ refused w → SameTerms m (waking m move).after
-  waking_terms None w e = let z : ◌≡◌ {A = ℕ} 0 1 = cc in absurd (omega arith)
-  waking_terms (Some r) w e = roused_terms r
-
-  request_in_terms : (c : Condition) (w : Refused) → (request_in c m).answer ≡ refused w → SameTerms m (request_in c m).after
-  request_in_terms (shut n) w = λ _. itself
-  request_in_terms busy w = λ _. itself
-  request_in_terms idle w =
-      cond_both (leb 1000000 m.account.gaps) _ _ (λ (o : Outcome). o.answer ≡ refused w → SameTerms m o.after)
-      (λ _ _. itself) (λ _. waking_terms (wake_refusal m.device) w)
-
-  pub request_terms : (w : Refused) → (done m request).answer ≡ refused w → SameTerms m (done m request).after
-  request_terms w = request_in_terms m.condition w
-
-  -- no request changes the number
-  waking_number : (move : Option Refused) → (waking m move).after.number ≡ m.number
-  waking_number None = refl
-  waking_number (Some r) = refl
-
-  request_in_number : (c : Condition) → (request_in c m).after.number ≡ m.number
-  request_in_number (shut n) = refl
-  request_in_number busy = refl
-  request_in_number idle = cond_both (leb 1000000 m.account.gaps) _ _ (λ (o : Outcome). o.after.number ≡ m.number) (λ _. refl) (λ _. waking_number (wake_refusal m.device))
-
-  pub request_number : (done m request).after.number ≡ m.number
-  request_number = request_in_number m.condition
 
   -- a refused tick changes nothing
   holding_still : (i : ℕ) (hitch : Option Refused) (charged : Account) (r : Option Refused) (w : Refused) → (holding m i hitch charged r).answer ≡ refused w → (holding m i hitch charged r).after ≡ m

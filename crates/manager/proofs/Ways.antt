@@ -1,17 +1,10 @@
 -- Steps of the rules as the code takes them.
-use Rattle.std.proofs.Common.{◌≡◌, ℕ, ◌+◌, ◌<◌, Bool, false, eqb, leb, List, [], ◌∷◌, map, Some, None, Ok, Err, Option, Result, sym, refl, ap, ◌∙◌, ap₂, arith}
+use Rattle.std.proofs.Common.{◌≡◌, ℕ, ◌<◌, false, eqb, leb, List, [], ◌∷◌, map, Some, None, Err, Option, Result, sym, refl, ap, ◌∙◌, ap₂, arith}
 use Rattle.std.proofs.lemmas.Bool.{cond-false, or_parts, lt-leb}
-use Rattle.states.specs.declared.row.Row.{Row}
-use Rattle.states.specs.Table.{Table, at}
-use Rattle.states.specs.Energy.{floor_of}
-use Rattle.devices.specs.Meaning.{Status, Refused, hold_refusal, held, reply, left, bears, coded, reported, told as told_by_device}
+use Rattle.states.specs.Table.{Table}
+use Rattle.devices.specs.Meaning.{Status, Refused, hold_refusal, held, reply, left, bears, coded, reported}
 use Rattle.devices.specs.declared.device.Part.{Part}
-use Rattle.devices.specs.declared.device.Refusal as device
-use Rattle.devices.specs.declared.device.Refusal.TheVariants as refusals
-use Rattle.manager.specs.declared.account.Account.{Account}
-use Rattle.manager.specs.Charges.{settle}
-use Rattle.manager.specs.Told.{told, risen, passed_up}
-use Rattle.manager.specs.Rules.{Condition, idle, busy, Managed, tick, aim, busy_tick, idle_tick, idle_tick_by, stuck_tick, tick_in, Closing, closing, roused, waking, done}
+use Rattle.manager.specs.Rules.{Condition, idle, busy, Managed, tick, aim, busy_tick, idle_tick, idle_tick_by, stuck_tick, tick_in, done}
 
 pub refused_by : (x : Option Refused) (p : ℕ) (r : Refused) → ◌≡◌ {A = Result ℕ Refused} (Err r) (reply x p) → x ≡ Some r
 refused_by None p r e = let z : ◌≡◌ {A = ℕ} 0 1 = cc in absurd (omega arith)
@@ -54,39 +47,3 @@ module _ (m : Managed) where
 
   pub busy_goes : m.condition ≡ busy → m.account.ticks < 1000000 → done m tick ≡ busy_tick m
   busy_goes c l = ap (λ (x : Condition). tick_in x m) c ∙ cond-false (leb 1000000 m.account.ticks) _ _ (lt-leb 1000000 m.account.ticks l)
-
-pub accepted_by : (x : Option Refused) (p v : ℕ) → ◌≡◌ {A = Result ℕ Refused} (Ok v) (reply x p) → (x ≡ None) × (v ≡ p)
-accepted_by None p v e = (refl, cc)
-accepted_by (Some q) p v e = let z : ◌≡◌ {A = ℕ} 0 1 = cc in absurd (omega arith)
-
--- what a device's refusal becomes is told as 43 is passed up
-pub risen_told : (e : device.Refusal) → told (risen e) ≡ passed_up (told_by_device e)
-risen_told (refusals.Jammed f) = refl
-risen_told refusals.Unsettled = refl
-risen_told refusals.OutOfRange = refl
-
--- a manager that turns busy
-abbrev pub busied : Managed → List Row → Account → Managed
-busied m rows a = record { number = m.number; table = m.table; device = m.device; condition = busy; rows = rows; account = a }
-
--- a wake-up that is accepted, as the code settles it
-pub closed_up :
-    (m last : Managed) (rows : List Row) (a : Account) (from wake least : ℕ) →
-    last ≡ roused m None → rows ≡ m.rows → from ≡ m.device.state → wake ≡ (at m.table m.device.state).wake → least ≡ floor_of m.rows m.account.length →
-    a ≡ settle last.account from (last.account.pending + wake) least →
-    busied last rows a ≡ (waking m None).after
-closed_up m last rows a from wake least after rs fs ws ls cs =
-    ap (λ (x : Managed). busied x rows a) after
-    ∙ ap₂ (λ (r : List Row) (b : Account). busied (roused m None) r b) rs
-    (cs
-    ∙ ap (λ (x : Managed). settle x.account from (x.account.pending + wake) least) after
-    ∙ ap (λ (x : ℕ). settle m.account x (m.account.pending + wake) least) fs
-    ∙ ap (λ (x : ℕ). settle m.account m.device.state (m.account.pending + x) least) ws
-    ∙ ap (λ (x : ℕ). settle m.account m.device.state (closing m).energy x) ls)
-
--- the gap that the code answers is the one that closes
-pub closing_same :
-    (m : Managed) (manager count length energy least : ℕ) (stuck : Bool) (from latency : ℕ) →
-    manager ≡ m.number → count ≡ m.account.gaps + 1 → length ≡ m.account.length → energy ≡ (closing m).energy → least ≡ (closing m).floor → stuck ≡ m.account.mark → from ≡ m.device.state → latency ≡ (closing m).latency →
-    ◌≡◌ {A = Closing} (record { manager = manager; count = count; length = length; energy = energy; floor = least; stuck = stuck; from = from; latency = latency }) (closing m)
-closing_same m manager count length energy least stuck from latency a b c d e f h i = rw (a, b, c, d, e, f, h, i) refl

@@ -24,19 +24,3 @@ pub returns-in_err-wake-2 : goal.returns-in_err-wake-2
 returns-in_err-wake-2 g c =
     let d = c.args.self.now.second in
     absurd (wake_never (g.B.StateTable.table d) (g.B.Device.status d) (free g (goal.at.returns-in_err-wake-2 g c).In_ok-may_wake).second c.in_err-wake-2.ensures.value)
-
-pub returns : goal.returns
-returns g c =
-    let j = c.args.self.now in
-    let ta = g.A.StateTable.table j.first in
-    let tb = g.B.StateTable.table j.second in
-    let a = g.A.Device.status j.first in
-    let b = g.B.Device.status j.second in
-    let both = free g (goal.at.returns g c).In_ok-may_wake in
-    let first = c.wake.ensures in
-    let second = c.wake-2.ensures in
-    record {
-      value = free_answer both.pair (rw c.state.ensures at c.wake_energy-energy.ensures);
-      after = woken_together ta tb a b both first.same second.same first.after second.after;
-      same = table_of_halves j.rail.power j.rail.energy first.same second.same;
-    }
