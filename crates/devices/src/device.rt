@@ -49,6 +49,7 @@ impl Refusal {
     pub fn number(self) -> u8
         ensures { result ≡ (told self).number }
     {
+        // A case with values has no number of its own.
         match self {
             Refusal::Unsettled => 41,
             Refusal::OutOfRange => 42,

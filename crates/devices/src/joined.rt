@@ -49,6 +49,7 @@ impl<A: StateTable, B: StateTable> StateTable for Joined<A, B> {
         self.first.deepest().max(self.second.deepest())
     }
 
+    // Power and wake energy take the rail on opposite sides: one function for both would need a flag.
     fn power(&self, state: u8) -> u32 {
         let extra = if self.deepest() <= state {
             0

@@ -37,7 +37,7 @@ pub struct Tally {
     pub wakes: u32,
 }
 
-/// A tally for each of sixteen states.
+/// A tally for each of sixteen states, in fixed room.
 #[derive(Clone, Copy, Debug, Default, PartialEq, Eq)]
 pub struct Tallies {
     each: [Tally; STATES],
@@ -69,6 +69,9 @@ impl Tallies {
             .copied()
             .unwrap_or_default()
     }
+
+    // The two below count different things and keep different bounds: one function over both would be longer. By
+    // `get_mut` the proof did not close.
 
     /// One tick more in a state.
     pub(crate) fn tick(&mut self, state: u8)

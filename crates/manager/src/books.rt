@@ -35,6 +35,8 @@ impl Books {
         self.account
     }
 
+    // Room for a tick is asked for and not a fact of the type: after the last tick there is none.
+
     /// Charges a busy tick, which holds state 0.
     pub(crate) fn busy_tick(&mut self, energy: u32)
         requires { self.old.account.ticks < 1000000 }

@@ -36,7 +36,7 @@ pub struct HandedBack {
     pub why: Refusal,
 }
 
-/// What became of attach.
+/// What became of attach. Two of three cases hold rows, so neither an `Option` nor a `Result` says it.
 #[derive(Clone, Copy)]
 pub enum Standing {
     /// The device was not taken on.

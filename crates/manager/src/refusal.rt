@@ -20,6 +20,7 @@ impl Unattached {
     pub fn number(self) -> u8
         ensures { result ≡ unattached_number self }
     {
+        // A case with values has no number of its own.
         match self {
             Unattached::NotAwake => 11,
             Unattached::Unfit(why) => why.number(),
@@ -64,6 +65,7 @@ impl Refusal {
     pub fn number(self) -> u8
         ensures { result ≡ (told self).number }
     {
+        // A case with values has no number of its own.
         match self {
             Refusal::Attach(why) => why.number(),
             Refusal::Busy => 21,

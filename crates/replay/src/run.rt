@@ -114,6 +114,7 @@ impl<D: Device + Drop> Run<D> {
         ensures value { told result ≡ runs.says (stands D.Device self.old) (layout.item event.entry) }
         ensures after { stands D.Device self.new ≡ runs.leaves (stands D.Device self.old) (layout.item event.entry) }
     {
+        // Events are read from a trace, so they are data and no closures.
         match event {
             Event::Ticks { count } => self.ticks(count),
             Event::Request { number, note } => self.request(number, note),
@@ -123,7 +124,7 @@ impl<D: Device + Drop> Run<D> {
         }
     }
 
-    /// Works one record and writes what it says. Answers whether the run goes on.
+    /// Works one record and writes what it says. Answers whether the run goes on: a flag, which a `while` asks.
     fn step(&mut self, out: &mut String, next: Record<'_>) -> Result<bool, AllocError>
         requires { Proper (layout.item next.event) }
         ensures goes { IfOk result (λ on. on ≡ runs.goes_on (runs.says (stands D.Device self.old) (layout.item next.entry.event))) }

@@ -6,7 +6,7 @@ ghost use Rattle.replay.specs.declared.said.Halt.TheVariants.{Refused};
 use devices::Fault;
 use manager::{ClosedGap, Refusal};
 
-/// What a record says, if it does not end the run.
+/// What a record says, if it does not end the run: one of three things, so no `Option` says it.
 #[derive(Clone, Copy, Debug, PartialEq, Eq)]
 pub enum Said<'a> {
     /// Nothing.
@@ -33,6 +33,7 @@ impl Halt {
     pub(crate) fn number(self) -> u8
         ensures { result ≡ halt_number self }
     {
+        // A case with values has no number of its own.
         match self {
             Halt::Refused(why) => why.number(),
             Halt::OtherNumber => 25,

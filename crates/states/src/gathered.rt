@@ -11,7 +11,7 @@ use std::marker::Model;
 /// The fewest states of a fit table.
 const MIN_STATES: usize = 2;
 
-/// Up to sixteen rows. A contract sees it as their list.
+/// Up to sixteen rows. A contract sees it as their list. The room is fixed, since there is no heap at attach.
 #[derive(Clone, Copy)]
 pub struct Gathered {
     each: [Row; 16],
@@ -93,6 +93,7 @@ fn is_ordered(rows: &[Row]) -> bool
     if awake.wake != 0 || awake.latency != 0 {
         return false;
     }
+    // By a chain over neighbours the proof did not close.
     let mut above = awake;
     for row in deeper {
         if !row.is_below(above) {

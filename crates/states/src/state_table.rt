@@ -41,6 +41,8 @@ pub trait StateTable {
     }
 }
 
+// The two questions below differ in more than a type: each is the plainest with its own answer.
+
 /// The floor of a gap of `length` ticks on any table, or why the table is not fit.
 pub fn floor<T: StateTable>(table: &T, length: u32) -> Result<u64, Unfit>
     ensures refusal { told result ≡ unfitness (rows_of (T.StateTable.table table.now)) }
