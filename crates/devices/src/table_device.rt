@@ -84,13 +84,16 @@ fn byte_at(rows: &[u8], place: usize) -> u8
 fn number_at(rows: &[u8], place: u16) -> u32
     ensures { result ≡ number_at rows.now place }
 {
-    let place = place as usize;
-    u32::from_le_bytes([
-        byte_at(rows, place),
-        byte_at(rows, place + 1),
-        byte_at(rows, place + 2),
-        byte_at(rows, place + 3),
-    ])
+    let place = usize::from(place);
+    match rows.get(place..place + 4) {
+        Some([a, b, c, d]) => u32::from_le_bytes([*a, *b, *c, *d]),
+        _ => u32::from_le_bytes([
+            byte_at(rows, place),
+            byte_at(rows, place + 1),
+            byte_at(rows, place + 2),
+            byte_at(rows, place + 3),
+        ]),
+    }
 }
 
 impl<'a> StateTable for TableDevice<'a> {

@@ -1,22 +1,13 @@
 -- What one record says and leaves.
-use Rattle.std.proofs.Common.{◌≡◌, ℕ, true, false, eqb, List, [], ◌∷◌, Some, None, Option, sym, refl, ap, ◌∙◌, subst, arith}
-use Rattle.std.proofs.lemmas.Bool.{cond-true, cond-false, cond_both, and_parts, and_from, eq-eqb, eqb-true}
+use Rattle.std.proofs.Common.{◌≡◌, ℕ, true, eqb, List, [], ◌∷◌, Some, None, Option, sym, refl, ap, ◌∙◌, subst, arith}
+use Rattle.std.proofs.lemmas.Bool.{cond_both, and_parts, and_from, eq-eqb, eqb-true}
 use Rattle.devices.specs.Meaning.{Make}
-use Rattle.states.specs.Fit.{unfit_number}
-use Rattle.states.specs.declared.unfit.Unfit.{Unfit}
-use Rattle.states.specs.declared.unfit.Unfit.TheVariants as unfit
-use Rattle.devices.specs.declared.device.Fault.{Fault}
-use Rattle.manager.specs.declared.refusal.Unattached.{Unattached}
-use Rattle.manager.specs.declared.refusal.Unattached.TheVariants as unattached
-use Rattle.manager.specs.declared.refusal.Refusal.{Refusal}
-use Rattle.manager.specs.declared.refusal.Refusal.TheVariants as refusal
-use Rattle.manager.specs.Told.{unattached_number, told}
 use Rattle.manager.specs.declared.lease.Lease.{Lease}
 use Rattle.manager.specs.declared.manager.Manager.{Manager}
 use Rattle.manager.specs.Meaning.{condition_of, meaning, Waits}
 use Rattle.manager.proofs.Keeps.{SameTerms, kept}
 use Rattle.manager.specs.Rules.{Condition, shut, idle, busy, Managed, Call}
-use Rattle.manager.specs.Runs.{history, finally}
+use Rattle.manager.specs.Runs.{history}
 use Rattle.traces.specs.Layout.{Item}
 use Rattle.manager.specs.Rules as rules
 use Rattle.manager.specs.Rules.{Answer}
@@ -24,24 +15,9 @@ use Rattle.manager.specs.Runs.{Moment}
 use Rattle.devices.specs.Meaning.{Refused}
 use Rattle.traces.specs.Layout as layout
 use Rattle.traces.specs.Written.{Proper, Printable}
-use Rattle.replay.specs.Runs.{Said, jam, halt, astray, wants, calls, objection, voiced, heard, note_of, says, leaves}
+use Rattle.replay.specs.Runs.{Said, jam, halt, astray, calls, objection, voiced, heard, note_of, says}
 use Rattle.replay.specs.Leased.{is_idle, is_busy, is_leased}
 use Rattle.replay.specs.Shown.{Noted}
-
-module _ (m : Managed) (x : Item) where
-  -- a record that is astray
-  pub astray_says : astray m x ≡ true → says m x ≡ halt 25
-  astray_says e = cond-true (astray m x) _ _ e
-
-  pub astray_leaves : astray m x ≡ true → leaves m x ≡ m
-  astray_leaves e = ap (finally m) (cond-true (astray m x) [] (wants m x) e)
-
-  -- a record that is not
-  pub course_says : astray m x ≡ false → says m x ≡ heard (note_of x) (history m (wants m x))
-  course_says e = cond-false (astray m x) _ _ e ∙ ap (λ (cs : List Call). heard (note_of x) (history m cs)) (cond-false (astray m x) [] (wants m x) e)
-
-  pub course_leaves : astray m x ≡ false → leaves m x ≡ finally m (wants m x)
-  course_leaves e = ap (finally m) (cond-false (astray m x) [] (wants m x) e)
 
 -- a lease that is out is the one that the manager waits for, and with none out the manager is idle
 abbrev pub Out : Managed → Option Lease → Type 0
@@ -79,27 +55,6 @@ module _ {D : Type 0} (make : Make D) where
   -- it stays so where the terms stay
   pub still_leased : (m p : Manager D) (l : Option Lease) (n : Managed) → is_leased m l ≡ true → meaning make p ≡ n → SameTerms (meaning make m) n → is_leased p l ≡ true
   still_leased m p l n h e same = leased_from p l (keeps_out (meaning make m) n (meaning make p) l e same (out_from m l h))
-
--- no refusal but that of a fault is told by 31
-unfit_not_31 : (w : Unfit) → eqb (unfit_number w) 31 ≡ false
-unfit_not_31 unfit.StateCount = refl
-unfit_not_31 unfit.Number = refl
-unfit_not_31 unfit.Order = refl
-
-unattached_not_31 : (u : Unattached) → eqb (unattached_number u) 31 ≡ false
-unattached_not_31 unattached.NotAwake = refl
-unattached_not_31 (unattached.Unfit w) = unfit_not_31 w
-
-pub other_number : (why : Refusal) → ((f : Fault) → why ≡ refusal.Jammed f → ⊥) → eqb (told why).number 31 ≡ false
-other_number (refusal.Attach u) h = unattached_not_31 u
-other_number refusal.Busy h = refl
-other_number refusal.NotThisLease h = refl
-other_number refusal.TickLimit h = refl
-other_number refusal.GapLimit h = refl
-other_number refusal.NoSuchPart h = refl
-other_number (refusal.Jammed f) h = absurd (h f refl)
-other_number refusal.Unsettled h = refl
-other_number refusal.OutOfRange h = refl
 
 -- a note that can be printed is one when it is said
 objection_noted : (c : Call) (r : Refused) → Noted (objection c r)

@@ -1,6 +1,6 @@
 use Rattle.std.proofs.Common.{sym}
-use Rattle.devices.proofs.Bars.{wake_never, free_answer}
-use Rattle.devices.proofs.Halves.{BothWaking, wake_halves, woken_together, table_of_halves}
+use Rattle.devices.proofs.Bars.{wake_never}
+use Rattle.devices.proofs.Halves.{BothWaking, wake_halves}
 use Rattle.devices.proofs.joined.JoinedDevice.wake.Given as given
 use Rattle.devices.proofs.joined.JoinedDevice.wake.Goals as goal
 use Rattle.devices.proofs.joined.JoinedDevice.wake.Goals.{In_ok-may_wake}

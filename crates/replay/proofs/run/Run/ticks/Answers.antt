@@ -41,14 +41,5 @@ loop-turn-preserved g c =
           ∙ ap (λ (n : ℕ). finally m (replicate n rules.tick)) (sym more) ∙ c.loop-turn.invariant.1,
     )
 
-pub returns : goal.returns
-returns g c =
-    let m = stands (record { table = g.D.StateTable.table; status = g.D.Device.status }) c.loop-turn.self in
-    let none : c.args.count - c.loop-turn.turn ≡ 0 = omega arith in
-    record {
-      value = ap (λ (n : ℕ). heard [] (history m (replicate n rules.tick))) (sym none) ∙ c.loop-turn.invariant.0;
-      after = ap (λ (n : ℕ). finally m (replicate n rules.tick)) (sym none) ∙ c.loop-turn.invariant.1;
-    }
-
 pub invariant_of-self : goal.invariant_of-self
 invariant_of-self g c = record { leased = still_leased (record { table = g.D.StateTable.table; status = g.D.Device.status }) c.loop-turn.self.manager c.tick.new.self c.loop-turn.self.lease _ c.loop-turn.self.leased c.tick.ensures.after (tick_terms _) }
