@@ -3,7 +3,7 @@ use Rattle.std.proofs.Common.{◌≡◌, ℕ, ◌+◌, ◌≤◌, min, max, true
 use mathlib.Core.List.{map-append}
 use Rattle.std.proofs.lemmas.Bool.{and_parts, and_from, eq-eqb, eqb-true}
 use Rattle.states.specs.Table.{Table}
-use Rattle.devices.specs.Meaning.{Status, fault_of, hold_refusal, wake_refusal, held, woken, left, reported, coded, layered}
+use Rattle.devices.specs.Meaning.{Status, fault_of, hold_refusal, wake_refusal, held, left, reported, coded, layered}
 use Rattle.devices.specs.Pair.{joined_table, joined_status, abreast}
 use Rattle.devices.proofs.Layers.{coded_layered, sound_below, sound_both}
 use Rattle.devices.proofs.Bars.{Clear, hold_free, free_hold, wake_free, free_wake}
@@ -105,16 +105,6 @@ module _ (ta tb : Table) (a b : Status) where
       let down_a = after_a ∙ (ap (λ k. left (hold_refusal ta a k) a (held a k)) ex ∙ ap (λ o. left o a (held a (min i ta.deepest))) f.first) in
       let down_b = after_b ∙ (ap (λ k. left (hold_refusal tb b k) b (held b k)) ey ∙ ap (λ o. left o b (held b (min i tb.deepest))) f.second) in
       status_of_halves same_a same_b down_a down_b ∙ (held_pair i f.inside ∙ sym (ap (λ o. left o s (held s i)) f.pair))
-
-  -- and so for a wake-up
-  pub woken_together : {ta' tb' : Table} {a' b' : Status} → BothWaking ta tb a b → ta' ≡ ta → tb' ≡ tb → a' ≡ left (wake_refusal a) a (woken a) → b' ≡ left (wake_refusal b) b (woken b) → joined_status ta' a' tb' b' ≡ left (wake_refusal (joined_status ta a tb b)) (joined_status ta a tb b) (woken (joined_status ta a tb b))
-  woken_together f same_a same_b after_a after_b =
-      let s = joined_status ta a tb b in
-      let up_a = after_a ∙ ap (λ o. left o a (woken a)) f.first in
-      let up_b = after_b ∙ ap (λ o. left o b (woken b)) f.second in
-      let settled : (eqb 0 (min 0 ta.deepest) && eqb 0 (min 0 tb.deepest)) ≡ true = and_from (eqb 0 (min 0 ta.deepest)) _ (eq-eqb 0 _ (omega arith)) (eq-eqb 0 _ (omega arith)) in
-      let pair : joined_status ta (woken a) tb (woken b) ≡ woken s = cc in
-      status_of_halves same_a same_b up_a up_b ∙ (pair ∙ sym (ap (λ o. left o s (woken s)) f.pair))
 
   -- and for a report
   pub reported_together : (n c : ℕ) {ta' tb' : Table} {a' b' : Status} → ta' ≡ ta → tb' ≡ tb → a' ≡ reported a n c → b' ≡ reported b n c → joined_status ta' a' tb' b' ≡ reported (joined_status ta a tb b) n c

@@ -1,11 +1,11 @@
 -- What calls leave as it is, from every manager: what a lease hangs on, and what a refusal does not touch.
-use Rattle.std.proofs.Common.{◌≡◌, ℕ, zero, suc, ◌&&◌, eqb, leb, replicate, Some, None, Option, sym, refl, ap, ◌∙◌, subst, arith}
-use Rattle.std.proofs.lemmas.Bool.{cond_both, cond-true, and_from, eq-eqb}
+use Rattle.std.proofs.Common.{◌≡◌, ℕ, zero, suc, eqb, leb, replicate, Some, None, Option, sym, refl, ap, ◌∙◌, subst, arith}
+use Rattle.std.proofs.lemmas.Bool.{cond_both}
 use Rattle.devices.specs.Meaning.{Refused, hold_refusal, bears}
 use Rattle.manager.specs.declared.account.Account.{Account}
-use Rattle.manager.specs.Rules.{Condition, shut, idle, busy, Managed, tick, release, report, refused, Outcome, holding, idle_tick_by, aim, tick_in, release_in, freed, reporting, report_in, done}
+use Rattle.manager.specs.Rules.{Condition, shut, idle, busy, Managed, tick, report, refused, Outcome, holding, idle_tick_by, aim, tick_in, reporting, report_in, done}
 use Rattle.manager.specs.Runs.{finally}
-use Rattle.manager.specs.Meaning.{Waits, KeepsLease}
+use Rattle.manager.specs.Meaning.{KeepsLease}
 
 -- condition, number and count stay
 pub record SameTerms (m n : Managed) : Type 0 where
@@ -70,12 +70,6 @@ module _ (m : Managed) where
 
   pub tick_still : (w : Refused) → (done m tick).answer ≡ refused w → (done m tick).after ≡ m
   tick_still w = tick_in_still m.condition w
-
-  -- a lease that is waited for is taken
-  pub frees : (manager count : ℕ) → Waits m manager count → done m (release manager count) ≡ freed m
-  frees manager count w =
-      ap (λ (c : Condition). release_in c m manager count) w.condition
-      ∙ cond-true (eqb manager m.number && eqb count m.account.gaps) _ _ (and_from (eqb manager m.number) (eqb count m.account.gaps) (eq-eqb manager m.number w.number) (eq-eqb count m.account.gaps w.gaps))
 
 -- refused once, ticks change nothing
 pub ticks_still : (k : ℕ) (m n : Managed) (w : Refused) → (done m tick).answer ≡ refused w → n ≡ m → finally n (replicate k tick) ≡ n

@@ -5,9 +5,7 @@ use Rattle.traces.specs.declared.order.Kind.{Kind}
 use Rattle.traces.specs.declared.order.Kind.TheVariants as kind
 use Rattle.traces.specs.declared.order.Stage.{Stage}
 use Rattle.traces.specs.declared.order.Stage.TheVariants.{Start}
-use Rattle.traces.specs.declared.event.Event.{Event}
-use Rattle.traces.specs.declared.event.Event.TheVariants as event
-use Rattle.traces.specs.Layout.{Item, item, Step, follows, content, two, read_one, table}
+use Rattle.traces.specs.Layout.{Item, Step, follows, content, two, read_one, table}
 use Rattle.traces.specs.Reading.{Reading, after, remaining, reading}
 use Rattle.traces.proofs.Steps.{came, remaining_step}
 use Rattle.replay.specs.Runs.{IsTable, Starts}
@@ -36,13 +34,3 @@ from_start bs = subst (λ (r : Reading). Starts r.records) (sym (remaining_step 
 pub starts : (bs : List ℕ) → Starts (reading bs).records
 unfolding reading
 starts bs = cond_both (ltb 65536 (length bs)) _ _ (λ (r : Reading). Starts r.records) (λ _. tt) (λ _. from_start bs)
-
--- an event that says a table is one
-pub no_other : (e : Event) → IsTable (item e) → ((n : ℕ) (rows : _) → e ≡ event.Table n rows → ⊥) → ⊥
-no_other (event.Table n rows) h k = k n rows refl
-no_other (event.Limit l) h k = h
-no_other (event.Ticks c) h k = h
-no_other (event.Request n note) h k = h
-no_other (event.Release n) h k = h
-no_other (event.Report n c) h k = h
-no_other event.End h k = h
