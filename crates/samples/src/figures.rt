@@ -30,6 +30,7 @@ impl From<Account> for Figures {
 
     fn from(account: Account) -> Figures {
         let mut states = [StateFigures::default(); 16];
+        // A loop over state numbers: with `array::from_fn` the proof of what stands at each place did not close.
         for state in 0u8..16 {
             let tally = account.tallies.of(state);
             states[usize::from(state)] = StateFigures {
