@@ -4,11 +4,6 @@ use Rattle.manager.specs.declared.account.Account.{Account}
 use Rattle.manager.specs.declared.account.Tally.{Tally}
 use Rattle.manager.specs.Tallying.{tally_of}
 use Rattle.samples.specs.declared.figures.Figures.{Figures}
-use Rattle.samples.specs.declared.figures.StateFigures.{StateFigures}
-
--- the figures of a state
-abbrev pub state_figures : Tally → StateFigures
-state_figures t = record { ticks = t.ticks; wakes = t.wakes }
 
 -- each number is that of the account
 pub record IsTold (a : Account) (f : Figures) : Type 0 where
@@ -21,4 +16,4 @@ pub record IsTold (a : Account) (f : Figures) : Type 0 where
   pub mark : f.mark ≡ a.mark
   pub ticks : f.ticks ≡ a.ticks
   pub gaps : f.gaps ≡ a.gaps
-  pub states : (k : ℕ) (d : StateFigures) → k < 16 → slice_index_or f.states k d ≡ state_figures (tally_of a.tallies k)
+  pub states : (k : ℕ) (d : Tally) → k < 16 → slice_index_or f.states k d ≡ tally_of a.tallies k

@@ -1,14 +1,7 @@
 //! An account as plain numbers, so that those of different managers can be compared.
 ghost use Rattle.samples.specs.Told.{IsTold};
 
-use manager::Account;
-
-/// The ticks held in a state, and the wakes from it.
-#[derive(Clone, Copy, Debug, Default, PartialEq, Eq)]
-pub struct StateFigures {
-    pub ticks: u32,
-    pub wakes: u32,
-}
+use manager::{Account, Tally};
 
 /// An account as plain numbers, with the figures of each of sixteen states.
 #[derive(Clone, Copy, Debug, Default, PartialEq, Eq)]
@@ -22,20 +15,17 @@ pub struct Figures {
     pub mark: bool,
     pub ticks: u32,
     pub gaps: u32,
-    pub states: [StateFigures; 16],
+    pub states: [Tally; 16],
 }
 
 impl From<Account> for Figures {
     ghost from_gives = { λ account figures. IsTold account figures };
 
     fn from(account: Account) -> Figures {
-        let mut states = [StateFigures::default(); 16];
+        let mut states = [Tally::default(); 16];
+        // A loop over state numbers: with `array::from_fn` the proof of what stands at each place did not close.
         for state in 0u8..16 {
-            let tally = account.tallies.of(state);
-            states[usize::from(state)] = StateFigures {
-                ticks: tally.ticks,
-                wakes: tally.wakes,
-            };
+            states[usize::from(state)] = account.tallies.of(state);
         }
         Figures {
             clean: account.clean,

@@ -9,7 +9,7 @@ mod random;
 mod rows;
 
 pub use fault_text::FaultText;
-pub use figures::{Figures, StateFigures};
+pub use figures::Figures;
 pub use late::receiver_gap;
 pub use random::Random;
 pub use rows::{MODEM, RECEIVER};

@@ -1,6 +1,6 @@
 //! The naive implementation: the rows of the whole pile are worked out once, least costs are found by trying every
 //! state, a gap is the list of its ticks, and the figures are summed up from the closed gaps when they are asked for.
-//! It is a second opinion, so it shares no code with the library, nor with the naive code of `second_opinion`.
+//! It is a second opinion: none of its rules is taken from the library, nor from the naive code of `second_opinion`.
 use crate::cases::{Pile, Shape};
 use devices::Rail;
 use manager::Step;

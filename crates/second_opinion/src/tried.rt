@@ -8,7 +8,8 @@ pub struct Count {
     pub differ: u32,
 }
 
-/// For each number below 64, how often it came. All refusals have numbers below 64, and are printed in this order.
+/// For each number below 64, how often it came: of a refusal, or of a shape of piles. An array, since a map would need
+/// memory to count, and its counts come in this order too.
 #[derive(Clone, Copy, Debug, Default, PartialEq, Eq)]
 pub struct Numbers {
     pub counts: [u32; 64],

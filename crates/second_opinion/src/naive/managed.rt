@@ -1,4 +1,5 @@
 //! The manager: a gap is the list of its ticks, and the figures are summed up from the lists when they are asked for.
+//! `second` has its own: two independent opinions.
 use crate::naive::answer::{Answer, Gap, Refusal};
 use crate::naive::device::Device;
 use crate::naive::early::Early;

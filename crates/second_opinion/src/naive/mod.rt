@@ -1,6 +1,6 @@
 //! The naive implementation, written from the documents alone: tables, devices, the manager and the report of a trace.
-//! It is a second opinion, so it shares no code with the library, nor with the naive code of `second`. Refusals go by
-//! their numbers, as in the documents.
+//! It is a second opinion: none of its rules is taken from the library, nor from the naive code of `second`. Refusals go
+//! by their numbers, as in the documents.
 pub mod answer;
 pub mod device;
 pub mod early;

@@ -1,4 +1,4 @@
-//! State tables as lists of levels, and what follows from a table alone.
+//! State tables as lists of levels, and what follows from a table alone. `second` has its own: two independent opinions.
 use crate::naive::answer::Refusal;
 use devices::Rail;
 use std::alloc::{AllocError, Global};
