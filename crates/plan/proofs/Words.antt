@@ -1,5 +1,6 @@
 -- The words of a line, cut at its spaces.
-use Rattle.std.proofs.Common.{◌≡◌, ℕ, suc, ◌-◌, ◌<◌, eqb, List, [], ◌∷◌, ◌++◌, length, get_or, drop, sym, refl, ap, ◌∙◌, subst, inl, inr, arith, length-drop}
+use Rattle.std.proofs.Common.{◌≡◌, ℕ, suc, ◌-◌, ◌<◌, eqb, List, [], ◌∷◌, ◌++◌, length, get_or, drop, sym, refl, ap, ◌∙◌, subst, inl, inr, arith, length-drop, Some, None, Ok, Err, Option, Result, MatchResult, IfErr, IsErrAnd}
+use Rattle.std.specs.Option.{ok_or}
 use Rattle.std.specs.Str.Parse.{AllDigits}
 use Rattle.std.proofs.lemmas.List.{get_or-drop}
 use Rattle.std.proofs.lemmas.Bool.{cases_lt, cond_both, eqb-true}
@@ -54,3 +55,15 @@ fault_no_row line WordCount f row l = f (row_cut line row l)
 fault_no_row line Power f row l = f.1 row.power (subst (λ w. Number w row.power) (cut_same line (row_cut line row l) f.0).0 l.power_is)
 fault_no_row line Wake f row l = f.2 row.wake (subst (λ w. Number w row.wake) (cut_same line (row_cut line row l) f.0).1 l.wake_is)
 fault_no_row line Latency f row l = f.3 row.latency (subst (λ w. Number w row.latency) (cut_same line (row_cut line row l) f.0).2 l.latency_is)
+
+-- what is promised of a line that is no row
+abbrev pub Refused : List ℕ → Result Row RowFault → Type 0
+Refused line r = record { row : MatchResult r (RowLine line) (λ _. (row : Row) → RowLine line row → ⊥); why : IfErr r (IsRowFault line) }
+
+-- it holds where `?` hands on the fault in place of something that is missing
+pub refused : {X : Type 0} {d : RowFault} (line : List ℕ) (why : RowFault) (r : Result Row RowFault) (o : Option X) → IsErrAnd r (λ y. y ≡ d) → Err d ≡ ok_or o why → (o ≡ None → IsRowFault line why) → Refused line r
+refused line why r (Some x) is e f = absurd cc
+refused line why (Ok x) None is e f = absurd is
+refused line why (Err y) None is e f =
+    let same : y ≡ why = cc in
+    rw same (record { row = fault_no_row line why (f refl); why = f refl })
