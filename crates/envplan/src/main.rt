@@ -5,13 +5,12 @@
 use plan::{Fault, Sheet};
 use states::{FitRows, StateTable};
 use std::env;
-use std::io::{BufRead, BufReader};
 
 /// The rows of standard input.
 fn read_sheet(rt: &HostRuntime) -> anyhow::Result<Sheet> {
     let heap = rt.alloc();
     let mut sheet = Sheet::new(heap);
-    for (before, text) in BufReader::new(heap, rt.stdin())?.lines(heap).enumerate() {
+    for (before, text) in rt.lines(heap).enumerate() {
         sheet.add(before.saturating_add(1), text?.as_str())?;
     }
     Ok(sheet)
