@@ -3,20 +3,15 @@
 #![tactic(auto)]
 
 use plan::{Fault, Sheet};
-use states::FitRows;
-use std::alloc::AllocError;
+use states::{FitRows, StateTable};
 use std::env;
-use std::io::{BufRead, BufReader};
 
 /// The rows of standard input.
 fn read_sheet(rt: &HostRuntime) -> anyhow::Result<Sheet> {
     let heap = rt.alloc();
     let mut sheet = Sheet::new(heap);
-    let mut line = 0usize;
-    for text in BufReader::new(heap, rt.stdin())?.lines(heap) {
-        let text = text?;
-        line = line.saturating_add(1);
-        sheet.add(line, text.as_str())?;
+    for (before, text) in rt.lines(heap).enumerate() {
+        sheet.add(before.saturating_add(1), text?.as_str())?;
     }
     Ok(sheet)
 }
@@ -24,13 +19,11 @@ fn read_sheet(rt: &HostRuntime) -> anyhow::Result<Sheet> {
 /// The gap lengths given as arguments; where there are none, the first ticks of the states.
 fn read_lengths(rt: &HostRuntime, rows: &FitRows) -> anyhow::Result<Vec<u32>> {
     let heap = rt.alloc();
-    let mut lengths = Vec::new(heap);
-    for (place, word) in env::args(rt)?.enumerate().skip(1) {
-        match plan::number(word.as_str()) {
-            Some(length) => lengths.push(length)?,
-            None => return Err(Fault::Length(place).into()),
-        }
-    }
+    let lengths: Vec<u32> = env::args(rt)?
+        .enumerate()
+        .skip(1)
+        .map(|(place, word)| plan::number(word.as_str()).ok_or(Fault::Length(place)))
+        .try_collect(heap)?;
     if lengths.is_empty() {
         return Ok(plan::first_ticks(heap, rows)?);
     }
@@ -40,13 +33,10 @@ fn read_lengths(rt: &HostRuntime, rows: &FitRows) -> anyhow::Result<Vec<u32>> {
 fn run(rt: &HostRuntime) -> anyhow::Result<()> {
     let heap = rt.alloc();
     let sheet = read_sheet(rt)?;
-    let rows = match FitRows::gather(&sheet) {
-        Ok(rows) => rows,
-        Err(why) => return Err(Fault::Table(why).into()),
-    };
+    let rows = FitRows::gather(&sheet).map_err(Fault::Table)?;
     let lengths = read_lengths(rt, &rows)?;
-    for state in 0..rows.rows().len() {
-        rt.println(plan::state_line(heap, &rows, state as u8)?)?;
+    for state in 0..=sheet.deepest() {
+        rt.println(plan::state_line(heap, &rows, state)?)?;
     }
     for length in &lengths {
         rt.println(plan::gap_line(heap, &rows, *length)?)?;

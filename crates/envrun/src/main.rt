@@ -7,28 +7,17 @@ use std::io;
 use std::io::{Read, Write};
 use std::process::ExitCode;
 
-/// The most bytes that are read at once.
-const PIECE: usize = 65_536;
-
 /// As many bytes show that a trace is too long.
 const ENOUGH: usize = 65_537;
 
-/// The standard input, to its end or as far as shows that it is too long. Each turn reads a byte at least.
+/// The standard input, to its end or as far as shows that it is too long.
 fn read_trace(rt: &HostRuntime) -> io::Result<Vec<u8>>
     ensures { IfOk result (λ bytes. vec_len bytes ≤ 65537) }
 {
-    let heap = rt.alloc();
-    let mut input = rt.stdin();
-    let mut bytes = Vec::new(heap);
-    let mut piece = vec![in heap; 0u8; PIECE]?;
-    for _ in 0..ENOUGH {
-        let room = PIECE.min(ENOUGH - bytes.len());
-        let count = input.read(&mut piece.as_mut_slice()[..room])?;
-        if count == 0 {
-            break;
-        }
-        bytes.extend_from_slice(&piece.as_slice()[..count])?;
-    }
+    let mut bytes = Vec::new(rt.alloc());
+    rt.stdin().take(ENOUGH as u64).read_to_end(&mut bytes)?;
+    // No more was read, but no clause of the library says so.
+    bytes.truncate(ENOUGH);
     Ok(bytes)
 }
 

@@ -1,31 +1,24 @@
 -- The words of a line, cut at its spaces.
-use Rattle.std.proofs.Common.{◌≡◌, ℕ, suc, ◌-◌, ◌<◌, eqb, List, [], ◌∷◌, ◌++◌, length, get_or, drop, sym, refl, ap, ◌∙◌, subst, inl, inr, arith, length-drop}
+use Rattle.std.proofs.Common.{◌≡◌, ℕ, zero, suc, eqb, List, [], ◌∷◌, ◌++◌, drop, sym, refl, ◌∙◌, arith, Some, None, Ok, Err, Option, Result, MatchResult, IfErr, IsErrAnd}
+use Rattle.std.specs.Option.{ok_or}
 use Rattle.std.specs.Str.Parse.{AllDigits}
-use Rattle.std.proofs.lemmas.List.{get_or-drop}
-use Rattle.std.proofs.lemmas.Bool.{cases_lt, cond_both, eqb-true}
-use Rattle.std.proofs.lemmas.Str.Parse.{digit_at}
+use Rattle.std.proofs.lemmas.Bool.{cond_both}
+use Rattle.std.proofs.lemmas.Str.Parse.{digit_at, without_leading_plus_none}
 use Rattle.states.specs.declared.row.Row.{Row}
 use Rattle.plan.specs.declared.fault.RowFault.{RowFault}
 use Rattle.plan.specs.declared.fault.RowFault.TheVariants.{WordCount, Power, Wake, Latency}
 use Rattle.plan.specs.Text.{Number, RowLine, Unspaced, Cut, IsRowFault}
 
--- digits after at most one other byte that is no space
-digits_unspaced : (k : ℕ) (word : List ℕ) → AllDigits 10 (drop k word) → ((i : ℕ) → i < k → get_or word i 0 ≡ 32 → ⊥) → (i : ℕ) → i < length word → get_or word i 0 ≡ 32 → ⊥
-digits_unspaced k word ds before i h e =
-    elim (cases_lt i k) [
-      | inl l ↦ before i l e
-      | inr l ↦ (
-          let d = digit_at (drop k word) (i - k) ds (omega (arith, length-drop k word)) in
-          let at : get_or (drop k word) (i - k) 0 ≡ get_or word i 0 = get_or-drop k word (i - k) 0 ∙ ap (λ (j : ℕ). get_or word j 0) (omega arith) in
-          omega (arith, d.0, at))
-    ]
-
 -- a number has no space in it
-pub unspaced : (word : List ℕ) (n : ℕ) → Number word n → (i : ℕ) → i < length word → get_or word i 0 ≡ 32 → ⊥
-unspaced word n num =
-    cond_both (eqb (get_or word 0 0) 43) 1 0 (λ k. AllDigits 10 (drop k word) → (i : ℕ) → i < length word → get_or word i 0 ≡ 32 → ⊥)
-    (λ t ds. digits_unspaced 1 word ds (λ i l e. let first : i ≡ 0 = omega arith in omega (arith, eqb-true (get_or word 0 0) 43 t, ap (λ (j : ℕ). get_or word j 0) first)))
-    (λ t ds. digits_unspaced 0 word ds (λ i l e. absurd (omega arith)))
+pub unspaced : (word : List ℕ) (n : ℕ) → Number word n → Unspaced word
+unspaced [] n num i h e = absurd (omega arith)
+unspaced (x ∷ word) n num zero h e =
+    let plain : AllDigits 10 (x ∷ word) = rw (without_leading_plus_none (x ∷ word) (omega arith)) at num.0.0.1 in
+    omega (arith, digit_at (x ∷ word) 0 plain h)
+unspaced (x ∷ word) n num (suc i) h e =
+    cond_both (eqb x 43) 1 0 (λ k. AllDigits 10 (drop k (x ∷ word)) → ⊥)
+    (λ t ds. omega (arith, digit_at word i ds (omega arith)))
+    (λ t ds. omega (arith, digit_at (x ∷ word) (suc i) ds h))
     num.0.0.1
 
 -- two texts that are equal are cut at the same first space
@@ -51,6 +44,18 @@ row_cut line row l = record { first = l.power; second = l.wake; third = l.latenc
 -- a line with a fault is no row
 pub fault_no_row : (line : List ℕ) (why : RowFault) → IsRowFault line why → (row : Row) → RowLine line row → ⊥
 fault_no_row line WordCount f row l = f (row_cut line row l)
-fault_no_row line Power f row l = f.1 row.power (subst (λ w. Number w row.power) (cut_same line (row_cut line row l) f.0).0 l.power_is)
-fault_no_row line Wake f row l = f.2 row.wake (subst (λ w. Number w row.wake) (cut_same line (row_cut line row l) f.0).1 l.wake_is)
-fault_no_row line Latency f row l = f.3 row.latency (subst (λ w. Number w row.latency) (cut_same line (row_cut line row l) f.0).2 l.latency_is)
+fault_no_row line Power f row l = f.1 row.power (rw (cut_same line (row_cut line row l) f.0).0 at l.power_is)
+fault_no_row line Wake f row l = f.2 row.wake (rw (cut_same line (row_cut line row l) f.0).1 at l.wake_is)
+fault_no_row line Latency f row l = f.3 row.latency (rw (cut_same line (row_cut line row l) f.0).2 at l.latency_is)
+
+-- what is promised of a line that is no row
+abbrev pub Refused : List ℕ → Result Row RowFault → Type 0
+Refused line r = record { row : MatchResult r (RowLine line) (λ _. (row : Row) → RowLine line row → ⊥); why : IfErr r (IsRowFault line) }
+
+-- it holds where `?` hands on the fault in place of something that is missing
+pub refused : {X : Type 0} {d : RowFault} (line : List ℕ) (why : RowFault) (r : Result Row RowFault) (o : Option X) → IsErrAnd r (λ y. y ≡ d) → Err d ≡ ok_or o why → (o ≡ None → IsRowFault line why) → Refused line r
+refused line why r (Some x) is e f = absurd cc
+refused line why (Ok x) None is e f = absurd is
+refused line why (Err y) None is e f =
+    let same : y ≡ why = cc in
+    rw same (record { row = fault_no_row line why (f refl); why = f refl })

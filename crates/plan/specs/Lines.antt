@@ -1,7 +1,6 @@
 -- The lines of a plan.
 use Rattle.std.specs.Prelude.{ℕ, List, ◌++◌, length, Some, None, codes, decimal, Option}
-use Rattle.std.specs.List.{range_with_len, flat_map}
-use Rattle.std.specs.Option.{option_to_list}
+use Rattle.std.specs.List.{range_with_len, filter_map}
 use Rattle.states.specs.declared.row.Row.{Row}
 use Rattle.states.specs.Energy.{energy_of, floor_of, envelope_rule}
 use Rattle.states.specs.Ticks.{first_tick}
@@ -26,4 +25,4 @@ total_line energy floor = codes "total energy " ++ (decimal energy ++ (codes " f
 
 -- the first ticks of the states that have one
 abbrev pub first_ticks : List Row → List ℕ
-first_ticks rows = flat_map (λ s. option_to_list (first_tick rows s)) (range_with_len 0 (length rows))
+first_ticks rows = filter_map (first_tick rows) (range_with_len 0 (length rows))

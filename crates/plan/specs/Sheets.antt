@@ -1,15 +1,10 @@
 -- A sheet of rows, as a state table.
-use Rattle.std.specs.Prelude.{◌≡◌, ℕ, ◌-◌, ◌<◌, ◌≤◌, List, [], ◌∷◌, ◌++◌, length, Ok, Err, vec_items, Result, slice_index_or}
+use Rattle.std.specs.Prelude.{◌≡◌, ℕ, ◌-◌, ◌<◌, ◌≤◌, List, [], ◌∷◌, ◌++◌, length, Ok, Err, Result, slice_index_or}
 use Rattle.states.specs.declared.row.Row.{Row}
 use Rattle.states.specs.Table.{Table, no_row}
 use Rattle.plan.specs.declared.fault.Fault.{Fault}
 use Rattle.plan.specs.declared.fault.Fault.TheVariants.{Line, TooManyRows, Table as UnfitTable, Length, Memory}
-use Rattle.plan.specs.declared.sheet.Sheet.{Sheet}
 use Rattle.plan.specs.Text.{RowLine, IsRowFault}
-
--- the rows of a sheet
-abbrev pub sheet_rows : Sheet → List Row
-sheet_rows s = vec_items s.rows
 
 -- its last row is the deepest state; an empty sheet is a table of one state that draws nothing
 abbrev pub sheet_table : List Row → Table

@@ -9,7 +9,7 @@ use std::error::Error;
 use std::fmt;
 
 /// Why a line is no row.
-#[derive(Clone, Copy)]
+#[derive(Clone, Copy, Debug, PartialEq, Eq)]
 pub enum RowFault {
     /// Not three words with one space between each two.
     WordCount,
@@ -22,7 +22,7 @@ pub enum RowFault {
 }
 
 /// Why there is no plan.
-#[derive(Clone, Copy)]
+#[derive(Clone, Copy, Debug, PartialEq, Eq)]
 pub enum Fault {
     /// A line, counted from 1, that is no row.
     Line(usize, RowFault),
@@ -78,12 +78,6 @@ impl fmt::Display for Fault {
             }
             Fault::Memory => write!(f, "out of memory"),
         }
-    }
-}
-
-impl fmt::Debug for Fault {
-    fn fmt<W: fmt::Write>(&self, f: &mut fmt::Formatter<W>) -> fmt::Result {
-        write!(f, "{self}")
     }
 }
 

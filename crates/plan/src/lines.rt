@@ -1,6 +1,5 @@
 //! The lines of a plan.
 ghost use Rattle.std.specs.Prelude.{◌≡◌, IfOk, string_bytes};
-ghost use Rattle.states.specs.Gathered.{held_rows};
 ghost use Rattle.plan.specs.Lines.{state_line, gap_line, total_line, first_ticks};
 
 use states::{FitRows, Totals};
@@ -8,7 +7,7 @@ use std::alloc::{AllocError, Global};
 
 /// When a state is first held.
 pub fn state_line(heap: Global, rows: &FitRows, state: u8) -> Result<String, AllocError>
-    ensures { IfOk result (λ s. string_bytes s ≡ state_line (held_rows rows.now.gathered) state) }
+    ensures { IfOk result (λ s. string_bytes s ≡ state_line rows.now.rows state) }
 {
     match rows.first_tick(state) {
         Some(first) => format!(in heap; "state {state} from tick {first}"),
@@ -17,8 +16,9 @@ pub fn state_line(heap: Global, rows: &FitRows, state: u8) -> Result<String, All
 }
 
 /// What a clean gap draws, its floor, and the state that its last tick holds.
+#[tactic(auto, using(states::proofs::Least::rule_is))]
 pub fn gap_line(heap: Global, rows: &FitRows, length: u32) -> Result<String, AllocError>
-    ensures { IfOk result (λ s. string_bytes s ≡ gap_line (held_rows rows.now.gathered) length) }
+    ensures { IfOk result (λ s. string_bytes s ≡ gap_line rows.now.rows length) }
 {
     let energy = rows.energy(length);
     let floor = rows.floor(length);
@@ -28,15 +28,12 @@ pub fn gap_line(heap: Global, rows: &FitRows, length: u32) -> Result<String, All
 
 /// The first ticks of the states that have one, from the shallowest on: gap lengths that show each state.
 pub fn first_ticks(heap: Global, rows: &FitRows) -> Result<Vec<u32>, AllocError>
-    ensures { IfOk result (λ v. v.items ≡ first_ticks (held_rows rows.now.gathered)) }
+    ensures { IfOk result (λ v. v.items ≡ first_ticks rows.now.rows) }
 {
-    let mut ticks = Vec::new(heap);
-    for state in 0..rows.rows().len() {
-        if let Some(first) = rows.first_tick(state as u8) {
-            ticks.push(first)?;
-        }
-    }
-    Ok(ticks)
+    let states = rows.rows().len() as u8;
+    (0..states)
+        .filter_map(|state| rows.first_tick(state))
+        .collect(heap)
 }
 
 /// What all the gaps draw, and the sum of their floors.

@@ -9,10 +9,7 @@ use states::Row;
 pub fn number(word: &str) -> Option<u32>
     ensures { MatchOption result ((n : ℕ) → Number word.now n → ⊥) (Number word.now) }
 {
-    match word.parse::<u32>() {
-        Ok(n) => Some(n),
-        Err(_) => None,
-    }
+    word.parse().ok()
 }
 
 /// The row of a line of three numbers with one space between each two.
@@ -20,21 +17,11 @@ pub fn parse_row(line: &str) -> Result<Row, RowFault>
     ensures row { MatchResult result (RowLine line.now) (λ _. (row : Row) → RowLine line.now row → ⊥) }
     ensures why { IfErr result (IsRowFault line.now) }
 {
-    let Some((first, rest)) = line.split_once(' ') else {
-        return Err(RowFault::WordCount);
-    };
-    let Some((second, third)) = rest.split_once(' ') else {
-        return Err(RowFault::WordCount);
-    };
-    let Some(power) = number(first) else {
-        return Err(RowFault::Power);
-    };
-    let Some(wake) = number(second) else {
-        return Err(RowFault::Wake);
-    };
-    let Some(latency) = number(third) else {
-        return Err(RowFault::Latency);
-    };
+    let (first, rest) = line.split_once(' ').ok_or(RowFault::WordCount)?;
+    let (second, third) = rest.split_once(' ').ok_or(RowFault::WordCount)?;
+    let power = number(first).ok_or(RowFault::Power)?;
+    let wake = number(second).ok_or(RowFault::Wake)?;
+    let latency = number(third).ok_or(RowFault::Latency)?;
     Ok(Row {
         power,
         wake,
