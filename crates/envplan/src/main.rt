@@ -5,12 +5,13 @@
 use plan::{Fault, Sheet};
 use states::{FitRows, StateTable};
 use std::env;
+use std::io::{BufRead, BufReader};
 
 /// The rows of standard input.
 fn read_sheet(rt: &HostRuntime) -> anyhow::Result<Sheet> {
     let heap = rt.alloc();
     let mut sheet = Sheet::new(heap);
-    for (before, text) in rt.lines(heap).enumerate() {
+    for (before, text) in BufReader::new(heap, rt.stdin())?.lines(heap).enumerate() {
         sheet.add(before.saturating_add(1), text?.as_str())?;
     }
     Ok(sheet)
@@ -19,11 +20,12 @@ fn read_sheet(rt: &HostRuntime) -> anyhow::Result<Sheet> {
 /// The gap lengths given as arguments; where there are none, the first ticks of the states.
 fn read_lengths(rt: &HostRuntime, rows: &FitRows) -> anyhow::Result<Vec<u32>> {
     let heap = rt.alloc();
-    let lengths: Vec<u32> = env::args(rt)?
-        .enumerate()
-        .skip(1)
-        .map(|(place, word)| plan::number(word.as_str()).ok_or(Fault::Length(place)))
-        .try_collect(heap)?;
+    let mut lengths = Vec::new(heap);
+    // By `try_collect` another line would be printed where memory runs out.
+    for (place, word) in env::args(rt)?.enumerate().skip(1) {
+        let length = plan::number(word.as_str()).ok_or(Fault::Length(place))?;
+        lengths.push(length)?;
+    }
     if lengths.is_empty() {
         return Ok(plan::first_ticks(heap, rows)?);
     }

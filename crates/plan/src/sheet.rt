@@ -57,6 +57,8 @@ impl StateTable for Sheet {
 
     fn deepest(&self) -> u8
         ensures value { result ≡ (sheet_table self.now).deepest }
+
+        // Each sheet is so short; here a caller learns it.
         ensures few { length self.now ≤ 16 }
     {
         self.rows.len().saturating_sub(1) as u8
