@@ -26,6 +26,7 @@ impl BadRows {
     pub fn number(self) -> u8
         ensures { result ≡ told_rows self }
     {
+        // One case: it has no discriminant, and a constant is as plain.
         BAD_ROWS
     }
 }

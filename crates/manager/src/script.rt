@@ -44,6 +44,7 @@ impl<D: Device> Manager<D> {
         ensures value { answer_of result ≡ (done (meaning D.Device self.old) (call_of step)).answer }
         ensures after { meaning D.Device self.new ≡ (done (meaning D.Device self.old) (call_of step)).after }
     {
+        // Calls are data, which the law over every list of calls speaks of, and no closures.
         match step {
             Step::Tick => Ok(Reply::Ticked(self.tick()?)),
             Step::Request => {

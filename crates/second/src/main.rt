@@ -31,6 +31,7 @@ fn library_figures(shape: &Shape, steps: &[Step]) -> Option<Figures> {
     let first = TableDevice::new(first, shape.first.as_slice()).ok()?;
     let second = TableDevice::new(second, shape.second.as_slice()).ok()?;
     let limit = shape.limit;
+    // Each pile is another type, and shapes are drawn as data: the place where one becomes the other.
     Some(match shape.pile {
         Pile::Table => library(first, steps),
         Pile::Limit => library(LatencyLimit::new(first, limit), steps),

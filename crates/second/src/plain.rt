@@ -129,6 +129,7 @@ fn joined(
 fn pile_levels(heap: Global, shape: &Shape) -> Result<Vec<Level>, AllocError> {
     let first = levels_of(heap, shape.first.as_slice())?;
     let second = levels_of(heap, shape.second.as_slice())?;
+    // Shapes are drawn as data, which the library and this code get, and no closures.
     match shape.pile {
         Pile::Table => Ok(first),
         Pile::Limit => limited(heap, first.as_slice(), shape.limit),
@@ -305,6 +306,7 @@ impl Plain {
         if self.shut {
             return Ok(());
         }
+        // Calls are drawn as data, which the library and this code get, and no closures.
         match step {
             Step::Tick => self.tick()?,
             Step::Request => self.request()?,

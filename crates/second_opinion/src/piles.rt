@@ -142,6 +142,7 @@ fn pile_up(
     third: Twin<TableDevice<'_>>,
     about: About,
 ) -> Result<(), AllocError> {
+    // Each shape is another type, and shapes are drawn as data: the place where one becomes the other.
     match shape {
         Shape::Table => work(bench, first, about),
         Shape::Limit => {

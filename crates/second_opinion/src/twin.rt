@@ -118,6 +118,7 @@ impl<D: Device + Drop> Twin<D> {
 
     /// Gives one command.
     fn command(&mut self, tried: &mut Tried, command: Command) {
+        // Commands are drawn as data: a closure would have to fit devices of two types.
         match command {
             Command::Hold(state) => {
                 compare_moves(tried, self.device.hold(state), self.plain.hold(state));

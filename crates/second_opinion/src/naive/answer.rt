@@ -12,7 +12,8 @@ pub struct Jam {
     pub to: u8,
 }
 
-/// A refusal: its number, and what it names if it is for a fault.
+/// A refusal: its number, and what it names if it is for a fault. No enum names the cases: the numbers are what the
+/// library tells and what is compared.
 #[derive(Clone, Copy, Debug, PartialEq, Eq)]
 pub struct Refusal {
     pub number: u8,

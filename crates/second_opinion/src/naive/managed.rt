@@ -178,6 +178,7 @@ impl Manager {
             return Ok(Answer::Shown(self.figures()));
         }
         self.attached?;
+        // Calls are drawn as data, which the library and this code get, and no closures.
         match step {
             Step::Tick => self.tick(),
             Step::Request => self.request(),

@@ -9,7 +9,7 @@ use manager::Step;
 use std::alloc::{AllocError, Global};
 use std::fmt;
 
-/// Where and with which number a run stops.
+/// Where and with which number a run stops; the number is what a report prints.
 #[derive(Clone, Copy, Debug, PartialEq, Eq)]
 pub struct Stop {
     pub place: usize,
@@ -128,6 +128,7 @@ impl Run {
 
     /// Works a record after the opening.
     fn work(&mut self, place: usize, record: Record) -> Result<(), Early<Refusal>> {
+        // Records are read from a trace, so they are data and no closures.
         match record {
             Record::Ticks(count) => self.ticks(count),
             Record::Request { number, note } => self.request(place, number, note),
