@@ -1,6 +1,8 @@
 -- The deepest state that a limit shows is the one that the law in words tells.
-use Rattle.std.proofs.Common.{◌≡◌, ℕ, zero, suc, ◌<◌, ◌≤◌, true, sym, refl, ◌∙◌, subst, ⊎_elim, add-one, arith}
+use Rattle.std.proofs.Common.{◌≡◌, ℕ, zero, suc, ◌+◌, ◌<◌, ◌≤◌, true, inl, inr, sym, refl, ◌∙◌, subst, ⊎_elim, add-one, arith}
 use Rattle.std.proofs.lemmas.Bool.{and_parts, and_from, le-leb, leb-true, cond-true, cond-false, cond_both, cases_lt, cases_Bool}
+use Rattle.std.specs.Option.{unwrap_or}
+use Rattle.std.specs.Prelude.{Option, None, Some, MatchOption}
 use Rattle.states.specs.Table.{Table, at}
 use Rattle.devices.specs.Limit.{all_quick, largest_quick, shown_deepest, ShownInWords}
 
@@ -25,6 +27,11 @@ module _ (t : Table) (limit : ℕ) where
       ⊎_elim (λ less. all_each n p.0 i low (omega arith))
       (λ more. let here : suc n ≡ i = omega arith in subst (λ k. (at t k).latency ≤ limit) here (leb-true (at t (suc n)).latency limit p.1))
       (cases_lt i (suc n))
+
+  -- where each state after one before n is quick, those to n are
+  before : (n : ℕ) → ((k : ℕ) → k < n → (at t (k + 1)).latency ≤ limit) → Quick n
+  before n q zero low high = absurd (omega arith)
+  before n q (suc k) low high = let next : (at t (k + 1)).latency ≤ limit = q k (omega arith) in rw add-one at next
 
   -- where all up to n are quick, n is the largest
   largest_here : (n : ℕ) → Quick n → largest_quick t limit n ≡ n
@@ -52,6 +59,13 @@ module _ (t : Table) (limit : ℕ) where
       (λ e. subst (λ n. d ≡ largest_quick t limit n) e (sym (largest_here d s.quick)))
       (λ slow. sym (largest_before d s.quick (rw add-one at slow) t.deepest s.within))
       s.last
+
+  -- a state found as the first whose next is slow, or else the deepest of all, is that one
+  pub first_slow : (n : ℕ) → n ≡ t.deepest → (r : Option ℕ)
+      → MatchOption r ((k : ℕ) → 0 ≤ k → k < n → (at t (k + 1)).latency ≤ limit) (λ d. (0 ≤ d) × (d < n) × (limit < (at t (d + 1)).latency) × ((k : ℕ) → 0 ≤ k → k < d → (at t (k + 1)).latency ≤ limit))
+      → ShownInWords t limit (unwrap_or r n)
+  first_slow n e None q = record { within = omega (arith, e); quick = before n (λ k less. q k (omega arith) less); last = inl e }
+  first_slow n e (Some d) (low, less, slow, q) = record { within = omega (arith, e); quick = before d (λ k below. q k (omega arith) below); last = inr slow }
 
   -- the largest up to n is at most n
   largest_within : (n : ℕ) → largest_quick t limit n ≤ n

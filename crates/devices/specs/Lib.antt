@@ -2,3 +2,4 @@ pub mod Meaning
 pub mod Rows
 pub mod Pair
 pub mod Limit
+pub mod FaultWords

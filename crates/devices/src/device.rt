@@ -2,9 +2,11 @@
 ghost use Rattle.std.specs.Prelude.{◌≡◌, ◌≤◌, true};
 ghost use Rattle.std.specs.Result.{result_err};
 ghost use Rattle.states.specs.Table.{at};
+ghost use Rattle.devices.specs.FaultWords.{fault_words};
 ghost use Rattle.devices.specs.Meaning.{Status, told, told_bar, told_reply, fault_of, jam_between, hold_refusal, wake_refusal, held, woken, reply, left, bears, reported, layered};
 
 use states::StateTable;
+use std::fmt;
 
 /// A basic device as its pile shows it: its number, its fault code (0 if sound) and the layers above it, 255 at most.
 #[derive(Clone, Copy, Debug, PartialEq, Eq)]
@@ -34,6 +36,24 @@ pub struct Fault {
     pub depth: u8,
     pub from: u8,
     pub to: u8,
+}
+
+/// Its five numbers, with a space between each two.
+impl fmt::Display for Fault {
+    ghost use Rattle.std.specs.Prelude.{Some};
+
+    ghost output = { λ f. Some (fault_words f) };
+
+    fn fmt<W: fmt::Write>(&self, f: &mut fmt::Formatter<W>) -> fmt::Result {
+        let Fault {
+            number,
+            code,
+            depth,
+            from,
+            to,
+        } = *self;
+        write!(f, "{number} {code} {depth} {from} {to}")
+    }
 }
 
 /// Why a command is refused.
@@ -122,6 +142,8 @@ pub trait Device: StateTable {
         ensures value { told_reply result ≡ reply (wake_refusal (status self.old)) (at (Self.StateTable.table self.old) (status self.old).state).wake }
         ensures after { status self.new ≡ left (wake_refusal (status self.old)) (status self.old) (woken (status self.old)) }
         ensures same { Self.StateTable.table self.new ≡ Self.StateTable.table self.old };
+
+    // Number and code are two plain numbers in every layer, as in a trace: a type for both would say no more.
 
     /// Sets the code of each part with that number. Answers whether there was one.
     fn report(&mut self, number: u16, code: u32) -> bool

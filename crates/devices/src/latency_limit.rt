@@ -28,13 +28,9 @@ pub fn deepest_within<T: StateTable>(table: &T, limit: u32) -> u8
     ensures law { ShownInWords (T.StateTable.table table.now) limit result }
 {
     let deepest = table.deepest();
-    // A chain would end in the state before the one that it finds, too: no plainer.
-    for state in 0..deepest {
-        if table.latency(state + 1) > limit {
-            return state;
-        }
-    }
-    deepest
+    (0..deepest)
+        .find(|state| table.latency(*state + 1) > limit)
+        .unwrap_or(deepest)
 }
 
 impl<D: StateTable> StateTable for LatencyLimit<D> {

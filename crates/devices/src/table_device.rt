@@ -86,6 +86,7 @@ fn number_at(rows: &[u8], place: u16) -> u32
     ensures { result ≡ number_at rows.now place }
 {
     let place = usize::from(place);
+    // Read at once where the bytes are there: a device is asked for its power at each tick.
     match rows.get(place..place + 4) {
         Some([a, b, c, d]) => u32::from_le_bytes([*a, *b, *c, *d]),
         _ => u32::from_le_bytes([

@@ -37,7 +37,7 @@ pub struct Tally {
     pub wakes: u32,
 }
 
-/// A tally for each of sixteen states, in fixed room.
+/// A tally for each of sixteen states. The room is fixed, since there is no heap at attach.
 #[derive(Clone, Copy, Debug, Default, PartialEq, Eq)]
 pub struct Tallies {
     each: [Tally; STATES],

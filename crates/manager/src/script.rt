@@ -13,8 +13,8 @@ use crate::refusal::Refusal;
 use devices::Device;
 use std::alloc::{AllocError, Global};
 
-/// A call by its numbers. A release bears whatever two numbers a lease may bear. It is data and no closure, so that a law
-/// can speak of lists of calls.
+/// A call by its numbers. A release bears whatever two numbers a lease may bear; they are no `Lease`, which `request` alone
+/// makes. It is data and no closure, so that a law can speak of lists of calls.
 #[derive(Clone, Copy, Debug, PartialEq, Eq)]
 pub enum Step {
     Tick,

@@ -3,7 +3,7 @@
 #![tactic(auto)]
 
 use devices::{Device, Joined, LatencyLimit, Rail, Refusal, TableDevice};
-use samples::{FaultText, MODEM, RECEIVER};
+use samples::{MODEM, RECEIVER};
 use states::StateTable;
 use std::io;
 
@@ -24,10 +24,7 @@ fn show_table(rt: &HostRuntime, table: &impl StateTable) -> io::Result<()> {
 fn show_refusal(rt: &HostRuntime, refusal: Refusal) -> io::Result<()> {
     let number = refusal.number();
     match refusal {
-        Refusal::Jammed(fault) => {
-            let fault = FaultText(fault);
-            println!(rt; "refused {number} {fault}")
-        }
+        Refusal::Jammed(fault) => println!(rt; "refused {number} {fault}"),
         _ => println!(rt; "refused {number}"),
     }
 }

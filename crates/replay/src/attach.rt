@@ -64,10 +64,13 @@ fn behind_table(report: &mut Report<'_>, number: u16, rows: &[u8]) -> Result<(),
 {
     let device = device_of(number, rows);
     match report.next_or_stop()? {
-        Some(second) => match second.event {
-            Event::Limit { latency } => { face(report, number, LatencyLimit::new(device, latency)) }
-            _ => attach(report, number, device, second),
-        },
+        Some(
+            Record {
+                event: Event::Limit { latency },
+                ..
+            },
+        ) => face(report, number, LatencyLimit::new(device, latency)),
+        Some(second) => attach(report, number, device, second),
         None => Ok(()),
     }
 }

@@ -60,18 +60,13 @@ fn push_gap(out: &mut String, gap: ClosedGap, note: &[u8]) -> Result<(), AllocEr
     )
 }
 
+// Below, `out` is the report's and `place` the record's: they meet only in a line, so no type holds both.
+
 /// The line of a fault that held a request up.
 fn push_jam(out: &mut String, place: usize, fault: Fault) -> Result<(), AllocError>
     ensures { OnOk result (string_bytes out.new ≡ string_bytes out.old ++ lines.text (lines.jam place (fault_names fault))) }
 {
-    let Fault {
-        number,
-        code,
-        depth,
-        from,
-        to,
-    } = fault;
-    writeln!(out, "jam {place} {number} {code} {depth} {from} {to}")
+    writeln!(out, "jam {place} {fault}")
 }
 
 /// What a record at a place said.
@@ -86,7 +81,7 @@ pub(crate) fn push_said(out: &mut String, place: usize, said: Said<'_>) -> Resul
     }
 }
 
-/// The line of a refusal that ends a run.
+/// The line of a refusal that ends a run. A number tells it: refusals of three types come here.
 pub(crate) fn push_stop(out: &mut String, place: usize, number: u8) -> Result<(), AllocError>
     ensures { OnOk result (string_bytes out.new ≡ string_bytes out.old ++ lines.written (lines.stop place number ∷ [])) }
 {

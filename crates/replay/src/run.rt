@@ -61,7 +61,7 @@ impl<D: Device + Drop> Run<D> {
         ensures value { told result ≡ runs.says (stands D.Device self.old) (layout.ticks count) }
         ensures after { stands D.Device self.new ≡ runs.leaves (stands D.Device self.old) (layout.ticks count) }
     {
-        for turn in 0..count {
+        for _ in 0..count {
             self.manager.tick()?;
         }
         Ok(Said::Quiet)
@@ -78,10 +78,8 @@ impl<D: Device + Drop> Run<D> {
                 None => Ok(Said::Gap(gap, note)),
                 Some(_other) => unreachable(),
             },
-            Err(why) => match why {
-                Refusal::Jammed(fault) => Ok(Said::Jam(fault)),
-                _ => Err(why.into()),
-            },
+            Err(Refusal::Jammed(fault)) => Ok(Said::Jam(fault)),
+            Err(why) => Err(why.into()),
         }
     }
 
@@ -131,6 +129,7 @@ impl<D: Device + Drop> Run<D> {
         ensures value { OnOk result (string_bytes out.new ≡ string_bytes out.old ++ lines.written (runs.lines_of next.entry.offset (runs.says (stands D.Device self.old) (layout.item next.entry.event)))) }
         ensures after { stands D.Device self.new ≡ runs.leaves (stands D.Device self.old) (layout.item next.entry.event) }
     {
+        // `Proper` is asked for and is no invariant of a record: the fields are public, and whoever makes one would owe it.
         let place = next.offset;
         match self.work(next.event) {
             Ok(said) => {
@@ -153,19 +152,17 @@ impl<D: Device + Drop> Run<D> {
         push_end(out)
     }
 
-    /// Reads and works the next record, or writes how the run ends. Answers whether it goes on.
+    /// Reads and works the next record, or writes how the run ends. Answers whether it goes on, as `step` does.
     fn advance(&mut self, report: &mut Report<'_>) -> Result<bool, AllocError>
         ensures moves { IfOk result (λ on. on ≡ true → length report.new.reader.records < length report.old.reader.records) }
         ensures value { IfOk result (λ on. string_bytes report.new.text ++ (if on then lines.written (runs.run_on (stands D.Device self.new) report.new.reader) else []) ≡ string_bytes report.old.text ++ lines.written (runs.run_on (stands D.Device self.old) report.old.reader)) }
     {
         match report.reader.next() {
-            Ok(handed) => match handed {
-                Some(next) => self.step(&mut report.text, next),
-                None => {
-                    self.close(&mut report.text)?;
-                    Ok(false)
-                }
-            },
+            Ok(Some(next)) => self.step(&mut report.text, next),
+            Ok(None) => {
+                self.close(&mut report.text)?;
+                Ok(false)
+            }
             Err(refusal) => {
                 push_stop(&mut report.text, refusal.place, refusal.fault.number())?;
                 Ok(false)

@@ -1,4 +1,3 @@
-pub mod FaultWords
 pub mod Late
 pub mod Numbers
 pub mod Told

@@ -1,14 +1,12 @@
-//! What the sample programs share: the rows of two devices, pseudo-random numbers, an account as plain numbers, the
-//! text of a fault, and what a mistaken rule draws.
+//! What the sample programs share: the rows of two devices, pseudo-random numbers, an account as plain numbers, and
+//! what a mistaken rule draws.
 #![tactic(auto)]
 
-mod fault_text;
 mod figures;
 mod late;
 mod random;
 mod rows;
 
-pub use fault_text::FaultText;
 pub use figures::Figures;
 pub use late::receiver_gap;
 pub use random::Random;

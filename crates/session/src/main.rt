@@ -8,7 +8,7 @@ ghost use Rattle.manager.specs.Meaning.{meaning, Waits, KeepsLease};
 
 use devices::{Device, TableDevice};
 use manager::{Account, ClosedGap, Lease, Manager, Refusal, Ticked};
-use samples::{FaultText, Figures, MODEM};
+use samples::{Figures, MODEM};
 use std::io;
 
 /// The number of the modem and of its manager.
@@ -21,10 +21,7 @@ const STATES: usize = 3;
 fn show_refusal(rt: &HostRuntime, refusal: Refusal) -> io::Result<()> {
     let number = refusal.number();
     match refusal {
-        Refusal::Jammed(fault) => {
-            let fault = FaultText(fault);
-            println!(rt; "refused {number}: fault {fault}")
-        }
+        Refusal::Jammed(fault) => println!(rt; "refused {number}: fault {fault}"),
         _ => println!(rt; "refused {number}"),
     }
 }
@@ -38,10 +35,7 @@ fn show_tick(rt: &HostRuntime, answer: Result<Ticked, Refusal>) -> io::Result<()
                 energy,
                 fault: Some(fault),
             },
-        ) => {
-            let fault = FaultText(fault);
-            println!(rt; "tick {state} {energy} fault {fault}")
-        }
+        ) => println!(rt; "tick {state} {energy} fault {fault}"),
         Ok(Ticked { state, energy, .. }) => println!(rt; "tick {state} {energy}"),
         Err(refusal) => show_refusal(rt, refusal),
     }

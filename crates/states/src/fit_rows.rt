@@ -72,7 +72,7 @@ impl FitRows {
         }
         let mut state = 0;
         let mut least = rows[0].cost_of(n);
-        // `min_by_key` would hide which of several equal states is answered.
+        // By `min_by_key` the least cost would be worked out twice: it hands out the row and not the key.
         for (i, row) in rows.iter().enumerate() {
             let cost = row.cost_of(n);
             if cost < least {

@@ -41,7 +41,7 @@ pub trait StateTable {
     }
 }
 
-// The two questions below differ in more than a type: each is the plainest with its own answer.
+// Two functions and no generic one: that would take the question as a closure, and its contract speak of what that answers.
 
 /// The floor of a gap of `length` ticks on any table, or why the table is not fit.
 pub fn floor<T: StateTable>(table: &T, length: u32) -> Result<u64, Unfit>

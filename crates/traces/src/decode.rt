@@ -11,6 +11,7 @@ use crate::order::{Kind, Stage};
 const MAX_ROWS: u8 = 16;
 
 /// The bytes of a row.
+// As in `devices`, on which this crate does not depend.
 const ROW_LEN: usize = 12;
 
 /// The longest note.

@@ -49,7 +49,7 @@ impl<D: Device> Manager<D> {
         let before = self.books.account();
         match &self.standing {
             Standing::Shut(why) => Err(Refusal::Attach(*why)),
-            // One guard for both arms below: the proof did not close.
+            // Twice, since with one guard over both arms the proof did not close.
             Standing::Idle(_) if before.ticks >= MAX_TICKS => Err(Refusal::TickLimit),
             Standing::Busy(_) if before.ticks >= MAX_TICKS => Err(Refusal::TickLimit),
             Standing::Idle(rows) => {
@@ -59,6 +59,8 @@ impl<D: Device> Manager<D> {
             Standing::Busy(_) => self.busy_tick(),
         }
     }
+
+    // Room for a tick is asked for in the three below, as in the books: after the last tick there is none.
 
     /// Holds state 0 and charges it to the busy time.
     fn busy_tick(&mut self) -> Result<Ticked, Refusal>
@@ -156,15 +158,11 @@ impl<D: Device> Manager<D> {
         ensures value { told_reply result ≡ reply (wake_refusal (D.Device.status self.old.device)) (at (D.StateTable.table self.old.device) (D.Device.status self.old.device).state).wake }
         ensures after { meaning D.Device self.new ≡ roused (meaning D.Device self.old) (wake_refusal (D.Device.status self.old.device)) }
     {
-        match self.device.wake() {
-            Ok(wake) => Ok(wake),
-            Err(why) => {
-                if let devices::Refusal::Jammed(_) = why {
-                    self.books.mark();
-                }
-                Err(why)
-            }
+        let woken = self.device.wake();
+        if let Err(devices::Refusal::Jammed(_)) = woken {
+            self.books.mark();
         }
+        woken
     }
 
     /// Takes the lease back and starts a gap. Refused, it hands the lease back.

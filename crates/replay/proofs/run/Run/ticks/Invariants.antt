@@ -6,7 +6,7 @@ use Rattle.replay.specs.Shown.{stands}
 use Rattle.replay.proofs.run.Run.ticks.Given as goal
 
 -- the ticks that are left decide
-abbrev pub invariant-loop-turn : goal.invariant-loop-turn
-invariant-loop-turn g l =
-    (heard [] (history (stands (record { table = g.D.StateTable.table; status = g.D.Device.status }) l.self) (replicate (l.count - l.turn) tick)) ≡ heard [] (history (stands (record { table = g.D.StateTable.table; status = g.D.Device.status }) l.initial.self) (replicate l.count tick)))
-    × (finally (stands (record { table = g.D.StateTable.table; status = g.D.Device.status }) l.self) (replicate (l.count - l.turn) tick) ≡ finally (stands (record { table = g.D.StateTable.table; status = g.D.Device.status }) l.initial.self) (replicate l.count tick))
+abbrev pub invariant-loop : goal.invariant-loop
+invariant-loop g l =
+    (heard [] (history (stands (record { table = g.D.StateTable.table; status = g.D.Device.status }) l.self) (replicate (l.count - l.counter) tick)) ≡ heard [] (history (stands (record { table = g.D.StateTable.table; status = g.D.Device.status }) l.initial.self) (replicate l.count tick)))
+    × (finally (stands (record { table = g.D.StateTable.table; status = g.D.Device.status }) l.self) (replicate (l.count - l.counter) tick) ≡ finally (stands (record { table = g.D.StateTable.table; status = g.D.Device.status }) l.initial.self) (replicate l.count tick))
