@@ -1,11 +1,12 @@
 //! The report of a trace.
-use crate::naive::answer::{Answer, Refusal};
+use crate::naive::answer::{Answer, GapText, Refusal};
 use crate::naive::device::Device;
 use crate::naive::early;
 use crate::naive::early::Early;
 use crate::naive::managed::Manager;
 use crate::naive::trace::{Note, Record, Records};
 use manager::Step;
+use samples::FaultText;
 use std::alloc::{AllocError, Global};
 use std::fmt;
 
@@ -106,9 +107,13 @@ impl Run {
     fn request(&mut self, place: usize, number: u16, note: Note) -> Result<(), Early<Refusal>> {
         self.check_number(number)?;
         match self.manager.take(Step::Request) {
-            Ok(Answer::Closed { gap, .. }) => writeln!(self.text, "gap {gap} {note}")?,
+            Ok(Answer::Closed { gap, .. }) => {
+                let gap = GapText(gap);
+                writeln!(self.text, "gap {gap} {note}")?;
+            }
             Err(Early::Refused(Refusal { jam: Some(jam), .. })) => {
                 self.jams = self.jams.wrapping_add(1);
+                let jam = FaultText(jam);
                 writeln!(self.text, "jam {place} {jam}")?;
             }
             answer => {
@@ -165,15 +170,16 @@ impl Run {
         let mut place = records.place();
         let mut next = records.next().map_err(|refusal| refusal.at(place))?;
         self.start().map_err(|early| early.at(0))?;
+        // One record is read already, and each other takes at least four bytes: the break comes before the count is out.
         for _ in 0..=records.left() {
             let Some(record) = next else {
-                return self.end(records);
+                break;
             };
             self.work(place, record).map_err(|early| early.at(place))?;
             place = records.place();
             next = records.next().map_err(|refusal| refusal.at(place))?;
         }
-        Ok(())
+        self.end(records)
     }
 }
 
