@@ -9,6 +9,7 @@ use std::alloc::Global;
 use std::marker::Model;
 
 /// The most rows of a sheet.
+// As in `traces`, on which this crate does not depend.
 const MAX_ROWS: usize = 16;
 
 /// Up to sixteen rows. A contract sees it as their list.

@@ -2,9 +2,8 @@
 ghost use Rattle.std.specs.Prelude.{◌≡◌};
 ghost use Rattle.samples.specs.Late.{late_energy};
 
-/// The energy of a gap on powers 1 and 0 and wake energies 0 and 5, where each tick's state is chosen by the costs so
-/// many ticks before it: none before is the rule that holds a state of least cost. The device stays awake for five
-/// ticks and for those, and the wake-up costs 5 if it sleeps at the end.
+/// The energy of a gap on powers 1 and 0 and wake energies 0 and 5, where the choice of a state lags `late` ticks behind; 0
+/// is the right rule. The device stays awake for five ticks and for those, and the wake-up costs 5 if it sleeps at the end.
 pub fn receiver_gap(ticks: u32, late: u32) -> u64
     ensures { result ≡ late_energy late ticks }
 {

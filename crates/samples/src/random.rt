@@ -48,6 +48,8 @@ impl Random {
         (self.bits() & 0xffff_ffff) as u32
     }
 
+    // This and `below` take different bits, and each program keeps its stream of numbers: both stay.
+
     /// The next number below a bound, from 53 bits; 0 for bound 0.
     pub fn wide_below(&mut self, bound: u32) -> u32
         ensures below { 0 < bound → result < bound }

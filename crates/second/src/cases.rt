@@ -2,6 +2,7 @@
 use devices::Rail;
 use manager::Step;
 use samples::Random;
+use states::Row;
 use std::alloc::{AllocError, Global};
 
 /// Which devices are piled.
@@ -29,46 +30,37 @@ pub struct Shape {
     pub rail: Rail,
 }
 
-/// A row of a table.
-#[derive(Clone, Copy, Debug, PartialEq, Eq)]
-struct Row {
-    power: u32,
-    wake: u32,
-    latency: u32,
+/// Adds the bytes of a row, rarely with a number that makes the table unfit.
+fn push_row(bytes: &mut Vec<u8>, row: Row, random: &mut Random) -> Result<(), AllocError> {
+    let power = if random.wide_below(200) == 0 {
+        1_000_001
+    } else {
+        row.power
+    };
+    let wake = if random.wide_below(200) == 0 {
+        0
+    } else {
+        row.wake
+    };
+    bytes.extend_from_slice(&power.to_le_bytes())?;
+    bytes.extend_from_slice(&wake.to_le_bytes())?;
+    bytes.extend_from_slice(&row.latency.to_le_bytes())
 }
 
-impl Row {
-    /// Adds the bytes of the row, rarely with a number that makes the table unfit.
-    fn push_to(self, bytes: &mut Vec<u8>, random: &mut Random) -> Result<(), AllocError> {
-        let power = if random.wide_below(200) == 0 {
-            1_000_001
-        } else {
-            self.power
-        };
-        let wake = if random.wide_below(200) == 0 {
-            0
-        } else {
-            self.wake
-        };
-        bytes.extend_from_slice(&power.to_le_bytes())?;
-        bytes.extend_from_slice(&wake.to_le_bytes())?;
-        bytes.extend_from_slice(&self.latency.to_le_bytes())
-    }
-
-    /// The row of a state one deeper, which mostly makes costs level.
-    fn deeper(self, random: &mut Random) -> Row {
-        let fall = random.wide_below(4).wrapping_add(1);
-        let rise = random.wide_below(20).wrapping_add(1);
-        Row {
-            power: self.power.wrapping_sub(fall),
-            wake: self.wake.wrapping_add(rise),
-            latency: self.latency.wrapping_add(random.wide_below(4)),
-        }
+/// The row of a state one deeper, which mostly makes costs level.
+fn deeper(row: Row, random: &mut Random) -> Row {
+    let fall = random.wide_below(4).wrapping_add(1);
+    let rise = random.wide_below(20).wrapping_add(1);
+    Row {
+        power: row.power.wrapping_sub(fall),
+        wake: row.wake.wrapping_add(rise),
+        latency: row.latency.wrapping_add(random.wide_below(4)),
     }
 }
 
 /// The rows of a table that is mostly fit, with level costs likely.
 fn rows(heap: Global, random: &mut Random) -> Result<Vec<u8>, AllocError> {
+    // Whatever allocates takes a handle of the heap, so it goes beside the generator down to here.
     let mut bytes = Vec::new(heap);
     let count = random.wide_below(6).wrapping_add(1);
     let mut row = Row {
@@ -76,10 +68,10 @@ fn rows(heap: Global, random: &mut Random) -> Result<Vec<u8>, AllocError> {
         wake: 0,
         latency: 0,
     };
-    row.push_to(&mut bytes, random)?;
+    push_row(&mut bytes, row, random)?;
     for _ in 1..count {
-        row = row.deeper(random);
-        row.push_to(&mut bytes, random)?;
+        row = deeper(row, random);
+        push_row(&mut bytes, row, random)?;
     }
     Ok(bytes)
 }

@@ -10,7 +10,7 @@ use cases::{Pile, Shape};
 use devices::{Device, Joined, LatencyLimit, TableDevice};
 use manager::{Step, account_after};
 use plain::{ClosedGaps, PARTS, Plain};
-use samples::{Figures, MODEM, Random, receiver_gap};
+use samples::{Figures, MODEM, PART, Random, STUCK_GAP, receiver_gap};
 use std::alloc::{AllocError, Global};
 use std::io;
 
@@ -80,22 +80,10 @@ fn compare(heap: Global, random: &mut Random, tried: &mut Tried) -> Result<(), A
     Ok(())
 }
 
-/// Three ticks, a fault, a tick, the fault cleared, a tick, and a request: the gap is stuck and draws 64, and its floor
-/// is not counted.
+/// A stuck gap of five ticks: it draws 64, and its floor is not counted.
 fn show_stuck(rt: &HostRuntime) -> io::Result<()> {
-    let number = 7;
-    let steps = [
-        Step::Tick,
-        Step::Tick,
-        Step::Tick,
-        Step::Report { number, code: 9 },
-        Step::Tick,
-        Step::Report { number, code: 0 },
-        Step::Tick,
-        Step::Request,
-    ];
-    if let Ok(modem) = TableDevice::new(number, MODEM) {
-        let account = account_after(MANAGER, modem, &steps);
+    if let Ok(modem) = TableDevice::new(PART, MODEM) {
+        let account = account_after(MANAGER, modem, STUCK_GAP);
         let stuck = account.stuck;
         let floor = account.floor;
         println!(rt; "a stuck gap: energy {stuck}, floor counted {floor}")?;

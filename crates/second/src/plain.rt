@@ -41,14 +41,22 @@ pub struct ClosedGaps {
     pub stuck: usize,
 }
 
+/// What became of attach, and whether the manager is busy.
+#[derive(Clone, Copy, Debug, PartialEq, Eq)]
+enum Standing {
+    /// The device was not taken on.
+    Shut,
+    Idle,
+    Busy,
+}
+
 /// A manager over one pile.
 #[derive(Debug, Drop)]
 pub struct Plain {
     number: u16,
     levels: Vec<Level>,
     parts: Vec<Part>,
-    shut: bool,
-    busy: bool,
+    standing: Standing,
     state: usize,
     gap: Vec<usize>,
     mark: bool,
@@ -179,7 +187,11 @@ impl Plain {
     /// Attaches a manager with a number to a pile.
     pub(crate) fn attach(heap: Global, number: u16, shape: &Shape) -> Result<Plain, AllocError> {
         let levels = pile_levels(heap, shape)?;
-        let shut = !is_fit(levels.as_slice());
+        let standing = if is_fit(levels.as_slice()) {
+            Standing::Idle
+        } else {
+            Standing::Shut
+        };
         let count = if shape.pile.is_pair() { 2 } else { 1 };
         let part = |number: &u16| Part {
             number: *number,
@@ -189,8 +201,7 @@ impl Plain {
             number,
             levels,
             parts: PARTS.iter().take(count).map(part).collect(heap)?,
-            shut,
-            busy: false,
+            standing,
             state: 0,
             gap: Vec::new(heap),
             mark: false,
@@ -202,7 +213,7 @@ impl Plain {
 
     /// Whether attach was refused.
     pub(crate) fn is_shut(&self) -> bool {
-        self.shut
+        self.standing == Standing::Shut
     }
 
     /// How many clean and how many stuck gaps were closed.
@@ -246,7 +257,7 @@ impl Plain {
 
     /// Works a tick.
     fn tick(&mut self) -> Result<(), AllocError> {
-        if self.busy {
+        if self.standing == Standing::Busy {
             self.busy_ticks.push(0)?;
             return Ok(());
         }
@@ -263,7 +274,7 @@ impl Plain {
 
     /// Works a request.
     fn request(&mut self) -> Result<(), AllocError> {
-        if self.busy {
+        if self.standing == Standing::Busy {
             return Ok(());
         }
         if self.state != 0 && self.jammed() {
@@ -288,7 +299,7 @@ impl Plain {
         self.gap.clear();
         self.mark = false;
         self.state = 0;
-        self.busy = true;
+        self.standing = Standing::Busy;
         Ok(())
     }
 
@@ -303,7 +314,7 @@ impl Plain {
 
     /// Works one call.
     pub(crate) fn take(&mut self, step: Step) -> Result<(), AllocError> {
-        if self.shut {
+        if self.is_shut() {
             return Ok(());
         }
         // Calls are drawn as data, which the library and this code get, and no closures.
@@ -312,7 +323,7 @@ impl Plain {
             Step::Request => self.request()?,
             Step::Release { manager, count } => {
                 if manager == self.number && u64::from(count) == self.closed.len() as u64 {
-                    self.busy = false;
+                    self.standing = Standing::Idle;
                 }
             }
             Step::Report { number, code } => self.report(number, code),

@@ -1,43 +1,18 @@
 //! The library's answers, as plain values.
-use crate::naive::answer::{Answer, Gap, Jam, Refusal};
-use crate::naive::device::Part;
-use devices::Fault;
-use manager::{ClosedGap, Reply};
+use crate::naive::answer::{Answer, Refusal};
+use manager::Reply;
 use samples::Figures;
 
-/// What a fault names.
-impl From<Fault> for Jam {
-    fn from(fault: Fault) -> Jam {
-        Jam {
-            number: fault.number,
-            code: fault.code,
-            depth: fault.depth,
-            from: fault.from,
-            to: fault.to,
-        }
-    }
-}
-
-/// A part as its pile shows it.
-impl From<devices::Part> for Part {
-    fn from(part: devices::Part) -> Part {
-        Part {
-            number: part.number,
-            code: part.code,
-            depth: part.depth,
-        }
-    }
-}
+// Two types of the library, with no trait over both: so the two bodies below are alike.
 
 /// A refusal of a device.
 impl From<devices::Refusal> for Refusal {
     fn from(refusal: devices::Refusal) -> Refusal {
         let number = refusal.number();
-        let jam = match refusal {
-            devices::Refusal::Jammed(fault) => Some(Jam::from(fault)),
-            _ => None,
-        };
-        Refusal { number, jam }
+        match refusal {
+            devices::Refusal::Jammed(fault) => Refusal::jammed(number, fault),
+            _ => Refusal::numbered(number),
+        }
     }
 }
 
@@ -45,24 +20,9 @@ impl From<devices::Refusal> for Refusal {
 impl From<manager::Refusal> for Refusal {
     fn from(refusal: manager::Refusal) -> Refusal {
         let number = refusal.number();
-        let jam = match refusal {
-            manager::Refusal::Jammed(fault) => Some(Jam::from(fault)),
-            _ => None,
-        };
-        Refusal { number, jam }
-    }
-}
-
-/// A closed gap.
-impl From<ClosedGap> for Gap {
-    fn from(gap: ClosedGap) -> Gap {
-        Gap {
-            length: gap.length,
-            energy: gap.energy,
-            floor: gap.floor,
-            stuck: gap.stuck,
-            from: gap.from,
-            latency: gap.latency,
+        match refusal {
+            manager::Refusal::Jammed(fault) => Refusal::jammed(number, fault),
+            _ => Refusal::numbered(number),
         }
     }
 }
@@ -71,11 +31,7 @@ impl From<ClosedGap> for Gap {
 impl From<Reply> for Answer {
     fn from(reply: Reply) -> Answer {
         match reply {
-            Reply::Ticked(ticked) => Answer::Ticked {
-                state: ticked.state,
-                energy: ticked.energy,
-                jam: ticked.fault.map(Jam::from),
-            },
+            Reply::Ticked(ticked) => Answer::Ticked(ticked),
             Reply::Closed {
                 manager,
                 count,
@@ -83,7 +39,7 @@ impl From<Reply> for Answer {
             } => Answer::Closed {
                 manager,
                 count,
-                gap: Gap::from(gap),
+                gap,
             },
             Reply::Released => Answer::Released,
             Reply::Reported => Answer::Reported,

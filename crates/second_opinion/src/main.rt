@@ -14,8 +14,8 @@ mod shown;
 mod tried;
 mod twin;
 
-use bench::Bench;
-use piles::{About, Shape};
+use bench::{About, Bench};
+use piles::Shape;
 use samples::Random;
 use std::alloc::AllocError;
 use std::io;
@@ -131,6 +131,7 @@ fn main(rt: HostRuntime) -> io::Result<()> {
         heap: rt.alloc(),
         random: Random::new(20_261_117),
         tried: Tried::default(),
+        about: About::Commands,
     };
     try_all(&mut bench)?;
     print_devices(&rt, &bench.tried)?;

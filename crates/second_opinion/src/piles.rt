@@ -1,19 +1,10 @@
 //! Trials on piles of devices of all shapes.
-use crate::bench::Bench;
+use crate::bench::{About, Bench};
 use crate::twin::Twin;
 use crate::{rows, twin};
 use devices::{Device, Joined, LatencyLimit, Rail, TableDevice};
 use std::alloc::AllocError;
 use std::fmt;
-
-/// What a trial is about.
-#[derive(Clone, Copy, Debug, PartialEq, Eq)]
-pub enum About {
-    /// Commands to devices, which may be in any state before they are piled.
-    Commands,
-    /// Lists of calls, on devices that are mostly as they were made.
-    Calls,
-}
 
 /// The shapes of piles.
 #[derive(Clone, Copy, Debug, PartialEq, Eq)]
@@ -56,8 +47,11 @@ impl fmt::Display for Shape {
 }
 
 /// Sometimes commands a device before something is put over it.
-fn prepare<D: Device + Drop>(bench: &mut Bench, twin: &mut Twin<D>, about: About) {
-    let often = if about == About::Commands { 3 } else { 60 };
+fn prepare<D: Device + Drop>(bench: &mut Bench, twin: &mut Twin<D>) {
+    let often = match bench.about {
+        About::Commands => 3,
+        About::Calls => 60,
+    };
     if bench.random.once_in(often) {
         let count = bench.random.below(8);
         twin.stir(bench, count);
@@ -67,11 +61,9 @@ fn prepare<D: Device + Drop>(bench: &mut Bench, twin: &mut Twin<D>, about: About
 /// Puts a limit over a device.
 fn limit<D: Device + Drop>(
     bench: &mut Bench,
-    twin: Twin<D>,
-    about: About,
+    mut lower: Twin<D>,
 ) -> Result<Twin<LatencyLimit<D>>, AllocError> {
-    let mut lower = twin;
-    prepare(bench, &mut lower, about);
+    prepare(bench, &mut lower);
     let most = match bench.random.below(16) {
         0 | 1 => u32::MAX,
         2 | 3 => bench.random.below(100_002),
@@ -94,30 +86,22 @@ fn rail_number(bench: &mut Bench) -> u32 {
 /// Joins two devices.
 fn join<D: Device + Drop, E: Device + Drop>(
     bench: &mut Bench,
-    first: Twin<D>,
-    second: Twin<E>,
-    about: About,
+    mut first: Twin<D>,
+    mut second: Twin<E>,
 ) -> Result<Twin<Joined<D, E>>, AllocError> {
-    let mut one = first;
-    let mut other = second;
-    prepare(bench, &mut one, about);
-    prepare(bench, &mut other, about);
+    prepare(bench, &mut first);
+    prepare(bench, &mut second);
     let rail = Rail {
         power: rail_number(bench),
         energy: rail_number(bench),
     };
-    twin::joined(bench.heap, one, other, rail)
+    twin::joined(bench.heap, first, second, rail)
 }
 
 /// Works with a whole pile: commands and questions, then a list of calls.
-fn work<D: Device + Drop>(
-    bench: &mut Bench,
-    twin: Twin<D>,
-    about: About,
-) -> Result<(), AllocError> {
-    let mut pile = twin;
+fn work<D: Device + Drop>(bench: &mut Bench, mut pile: Twin<D>) -> Result<(), AllocError> {
     pile.ask(bench);
-    let commands = match about {
+    let commands = match bench.about {
         About::Commands => bench.random.below(24),
         About::Calls => bench.random.below(60).saturating_sub(54),
     };
@@ -126,7 +110,7 @@ fn work<D: Device + Drop>(
         pile.wake(bench);
     }
     let number = bench.random.short(4);
-    let calls = match about {
+    let calls = match bench.about {
         About::Commands => bench.random.below(4),
         About::Calls => bench.random.below(60),
     };
@@ -140,49 +124,49 @@ fn pile_up(
     first: Twin<TableDevice<'_>>,
     second: Twin<TableDevice<'_>>,
     third: Twin<TableDevice<'_>>,
-    about: About,
 ) -> Result<(), AllocError> {
     // Each shape is another type, and shapes are drawn as data: the place where one becomes the other.
     match shape {
-        Shape::Table => work(bench, first, about),
+        Shape::Table => work(bench, first),
         Shape::Limit => {
-            let pile = limit(bench, first, about)?;
-            work(bench, pile, about)
+            let pile = limit(bench, first)?;
+            work(bench, pile)
         }
         Shape::LimitOnLimit => {
-            let lower = limit(bench, first, about)?;
-            let pile = limit(bench, lower, about)?;
-            work(bench, pile, about)
+            let lower = limit(bench, first)?;
+            let pile = limit(bench, lower)?;
+            work(bench, pile)
         }
         Shape::Pair => {
-            let pile = join(bench, first, second, about)?;
-            work(bench, pile, about)
+            let pile = join(bench, first, second)?;
+            work(bench, pile)
         }
         Shape::LimitOnPair => {
-            let both = join(bench, first, second, about)?;
-            let pile = limit(bench, both, about)?;
-            work(bench, pile, about)
+            let both = join(bench, first, second)?;
+            let pile = limit(bench, both)?;
+            work(bench, pile)
         }
         Shape::PairOfLimit => {
-            let quick = limit(bench, first, about)?;
-            let pile = join(bench, quick, second, about)?;
-            work(bench, pile, about)
+            let quick = limit(bench, first)?;
+            let pile = join(bench, quick, second)?;
+            work(bench, pile)
         }
         Shape::PairOnPair => {
-            let both = join(bench, second, third, about)?;
-            let quick = limit(bench, both, about)?;
-            let pile = join(bench, first, quick, about)?;
-            work(bench, pile, about)
+            let both = join(bench, second, third)?;
+            let quick = limit(bench, both)?;
+            let pile = join(bench, first, quick)?;
+            work(bench, pile)
         }
     }
 }
 
 /// One trial on a pile of a pseudo-random shape.
 pub(crate) fn trial(bench: &mut Bench, about: About) -> Result<(), AllocError> {
+    bench.about = about;
     let shape = Shape::ALL[bench.random.place(Shape::ALL.len())];
-    let first_rows = rows::rows_or_not(bench.heap, &mut bench.random)?;
-    let second_rows = rows::rows_or_not(bench.heap, &mut bench.random)?;
-    let third_rows = rows::rows_or_not(bench.heap, &mut bench.random)?;
+    let first_rows = rows::rows_or_not(bench)?;
+    let second_rows = rows::rows_or_not(bench)?;
+    let third_rows = rows::rows_or_not(bench)?;
     let second_number = if bench.random.once_in(8) { 7 } else { 8 };
     let Some(first) = twin::basic(bench, 7, first_rows.as_slice())? else {
         return Ok(());
@@ -194,5 +178,5 @@ pub(crate) fn trial(bench: &mut Bench, about: About) -> Result<(), AllocError> {
         return Ok(());
     };
     bench.tried.piles.note(shape as u8);
-    pile_up(bench, shape, first, second, third, about)
+    pile_up(bench, shape, first, second, third)
 }

@@ -128,15 +128,11 @@ fn tick_count(random: &mut Random) -> u32 {
 }
 
 /// A trace of so many records behind its table and limit, if it does not pass about so many bytes.
-fn written(
-    heap: Global,
-    random: &mut Random,
-    records: u32,
-    most: usize,
-) -> Result<Vec<u8>, AllocError> {
-    let number = random.short(65_536);
-    let rows = rows::rows(heap, random)?;
-    let mut writer = Writer::new(heap, number, rows.as_slice())?;
+fn written(bench: &mut Bench, records: u32, most: usize) -> Result<Vec<u8>, AllocError> {
+    let number = bench.random.short(65_536);
+    let rows = rows::rows(bench)?;
+    let mut writer = Writer::new(bench.heap, number, rows.as_slice())?;
+    let random = &mut bench.random;
     if random.once_in(3) {
         let limit = if random.once_in(8) {
             random.word()
@@ -192,7 +188,7 @@ fn compare(bench: &mut Bench, trace: &[u8]) -> Result<(), AllocError> {
 /// One trial on a short trace, damaged now and then.
 pub(crate) fn trial(bench: &mut Bench) -> Result<(), AllocError> {
     let records = bench.random.below(25);
-    let mut trace = written(bench.heap, &mut bench.random, records, 10_000)?;
+    let mut trace = written(bench, records, 10_000)?;
     if bench.random.once_in(2) {
         damage(&mut bench.random, &mut trace)?;
     }
@@ -202,7 +198,7 @@ pub(crate) fn trial(bench: &mut Bench) -> Result<(), AllocError> {
 /// One trial on a trace of thousands of records, nearly as long as a trace may be, or longer.
 pub(crate) fn long_trial(bench: &mut Bench) -> Result<(), AllocError> {
     let most = bench.random.place(500).wrapping_add(65_200);
-    let trace = written(bench.heap, &mut bench.random, 20_000, most)?;
+    let trace = written(bench, 20_000, most)?;
     compare(bench, trace.as_slice())
 }
 

@@ -1,4 +1,5 @@
 //! Pseudo-random rows of tables, fit and unfit.
+use crate::bench::Bench;
 use crate::naive::table::Level;
 use samples::Random;
 use std::alloc::{AllocError, Global};
@@ -24,8 +25,9 @@ fn rise(random: &mut Random, fall: u32) -> u32 {
 }
 
 /// The levels of a fit table, but that it may have one state.
-fn fit_levels(heap: Global, random: &mut Random) -> Result<Vec<Level>, AllocError> {
-    let mut levels = Vec::new(heap);
+fn fit_levels(bench: &mut Bench) -> Result<Vec<Level>, AllocError> {
+    let mut levels = Vec::new(bench.heap);
+    let random = &mut bench.random;
     let count = states(random);
     let largest_fall = match random.below(12) {
         0 => 60_000,
@@ -116,21 +118,22 @@ fn bytes_of(heap: Global, levels: &[Level]) -> Result<Vec<u8>, AllocError> {
 }
 
 /// So many pseudo-random bytes.
-fn noise(heap: Global, random: &mut Random, count: u32) -> Result<Vec<u8>, AllocError> {
-    let mut bytes = Vec::new(heap);
+fn noise(bench: &mut Bench, count: u32) -> Result<Vec<u8>, AllocError> {
+    let mut bytes = Vec::new(bench.heap);
     for _ in 0..count {
-        bytes.push(random.byte())?;
+        bytes.push(bench.random.byte())?;
     }
     Ok(bytes)
 }
 
 /// Rows of 12 to 192 bytes: of a table that is mostly fit, and sometimes any bytes.
-pub(crate) fn rows(heap: Global, random: &mut Random) -> Result<Vec<u8>, AllocError> {
-    if random.once_in(80) {
-        let count = random.below(16).wrapping_add(1).wrapping_mul(12);
-        return noise(heap, random, count);
+pub(crate) fn rows(bench: &mut Bench) -> Result<Vec<u8>, AllocError> {
+    if bench.random.once_in(80) {
+        let count = bench.random.below(16).wrapping_add(1).wrapping_mul(12);
+        return noise(bench, count);
     }
-    let mut levels = fit_levels(heap, random)?;
+    let mut levels = fit_levels(bench)?;
+    let random = &mut bench.random;
     if random.once_in(20) {
         stretch(random, levels.as_mut_slice());
     }
@@ -140,15 +143,15 @@ pub(crate) fn rows(heap: Global, random: &mut Random) -> Result<Vec<u8>, AllocEr
     if random.once_in(60) {
         spoil(random, levels.as_mut_slice());
     }
-    bytes_of(heap, levels.as_slice())
+    bytes_of(bench.heap, levels.as_slice())
 }
 
 /// Rows, and rarely bytes that are no rows: of a wrong length.
-pub(crate) fn rows_or_not(heap: Global, random: &mut Random) -> Result<Vec<u8>, AllocError> {
-    if random.once_in(100) {
-        let count = random.below(220);
-        noise(heap, random, count)
+pub(crate) fn rows_or_not(bench: &mut Bench) -> Result<Vec<u8>, AllocError> {
+    if bench.random.once_in(100) {
+        let count = bench.random.below(220);
+        noise(bench, count)
     } else {
-        rows(heap, random)
+        rows(bench)
     }
 }

@@ -1,18 +1,15 @@
 //! Two cases worked by hand, and the limit on closed gaps.
 use crate::bench::Bench;
-use crate::naive::answer::{Answer, Refusal};
+use crate::naive::answer::{Answer, Refusal, mark};
 use crate::naive::device::Device;
 use crate::naive::early;
 use crate::naive::managed::Manager;
 use crate::{library, twin};
 use devices::TableDevice;
 use manager::{Step, replies_to};
-use samples::{MODEM, RECEIVER, receiver_gap};
+use samples::{MODEM, PART, RECEIVER, STUCK_GAP, receiver_gap};
 use std::alloc::AllocError;
 use std::io;
-
-/// The number of the device.
-const PART: u16 = 7;
 
 /// The number of the manager.
 const MANAGER: u16 = 3;
@@ -32,24 +29,11 @@ fn answers(
         .collect(bench.heap)
 }
 
-/// Three ticks, a fault, a tick, the fault cleared, a tick, and a request: the gap is stuck and draws 64 with floor 40,
-/// which is not counted.
+/// A stuck gap of five ticks: it draws 64 with floor 40, which is not counted.
 pub(crate) fn show_stuck(rt: &HostRuntime, bench: &Bench) -> io::Result<()> {
-    let number = PART;
-    let steps = [
-        Step::Tick,
-        Step::Tick,
-        Step::Tick,
-        Step::Report { number, code: 9 },
-        Step::Tick,
-        Step::Report { number, code: 0 },
-        Step::Tick,
-        Step::Request,
-        Step::Figures,
-    ];
-    for answer in answers(bench, MODEM, &steps)?.iter() {
+    for answer in answers(bench, MODEM, STUCK_GAP)?.iter() {
         if let Ok(Answer::Closed { gap, .. }) = *answer {
-            let mark = gap.mark();
+            let mark = mark(gap);
             let energy = gap.energy;
             let floor = gap.floor;
             print!(rt; "a {mark} gap: energy {energy}, floor {floor}")?;

@@ -1,5 +1,6 @@
 //! What was tried, and how much of it was compared and differs.
 use crate::naive::answer::{Answer, Refusal};
+use manager::Ticked;
 
 /// How many answers of one kind were compared, and how many differ.
 #[derive(Clone, Copy, Debug, Default, PartialEq, Eq)]
@@ -97,7 +98,7 @@ impl Tried {
         match answer {
             Ok(Answer::Closed { gap, .. }) if gap.stuck => more(&mut self.stuck_gaps),
             Ok(Answer::Closed { .. }) => more(&mut self.clean_gaps),
-            Ok(Answer::Ticked { jam: Some(_), .. }) => more(&mut self.stuck_ticks),
+            Ok(Answer::Ticked(Ticked { fault: Some(_), .. })) => more(&mut self.stuck_ticks),
             Ok(_) => {}
             Err(refusal) => self.refused_calls.note(refusal.number),
         }

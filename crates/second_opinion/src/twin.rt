@@ -2,7 +2,6 @@
 use crate::bench::Bench;
 use crate::calls::Command;
 use crate::naive::answer::{Answer, Refusal};
-use crate::naive::device::Part;
 use crate::naive::early;
 use crate::naive::managed::Manager;
 use crate::tried::{Tried, more};
@@ -108,8 +107,9 @@ impl<D: Device + Drop> Twin<D> {
         tried
             .questions
             .note(self.device.settled() == self.plain.settled());
-        let fault = self.device.fault().map(Part::from);
-        tried.questions.note(fault == self.plain.fault());
+        tried
+            .questions
+            .note(self.device.fault() == self.plain.fault());
         for state in 0..=deepest.saturating_add(1) {
             self.ask_level(tried, state);
         }

@@ -1,92 +1,65 @@
 //! Answers as plain values, so that those of the library and of the naive implementation can be compared.
+use devices::Fault;
+use manager::{ClosedGap, Ticked};
 use samples::Figures;
 use std::fmt;
 
-/// What a refusal for a fault names.
-#[derive(Clone, Copy, Debug, PartialEq, Eq)]
-pub struct Jam {
-    pub number: u16,
-    pub code: u32,
-    pub depth: u8,
-    pub from: u8,
-    pub to: u8,
-}
-
-/// A refusal: its number, and what it names if it is for a fault. No enum names the cases: the numbers are what the
-/// library tells and what is compared.
+/// A refusal: its number, and the fault if it is for one. The library's is an enum; here the numbers are compared.
 #[derive(Clone, Copy, Debug, PartialEq, Eq)]
 pub struct Refusal {
     pub number: u8,
-    pub jam: Option<Jam>,
+    pub jam: Option<Fault>,
 }
 
-/// A gap that a request has closed.
-#[derive(Clone, Copy, Debug, PartialEq, Eq)]
-pub struct Gap {
-    pub length: u32,
-    pub energy: u64,
-    pub floor: u64,
-    pub stuck: bool,
-    pub from: u8,
-    pub latency: u32,
-}
-
-/// The answer of a manager to a call.
+/// The answer of a manager to a call. The library's shows an account with tallies of its own; these are plain figures.
 #[derive(Clone, Copy, Debug, PartialEq, Eq)]
 pub enum Answer {
-    Ticked {
-        state: u8,
-        energy: u32,
-        jam: Option<Jam>,
-    },
+    Ticked(Ticked),
     Closed {
         manager: u16,
         count: u32,
-        gap: Gap,
+        gap: ClosedGap,
     },
     Released,
     Reported,
     Shown(Figures),
 }
 
+/// A gap as text: length, `stuck` or `clean`, energy, floor, the state left and its latency.
+#[derive(Clone, Copy)]
+pub struct GapText(pub ClosedGap);
+
 impl Refusal {
     /// A refusal that names nothing.
     pub(crate) fn numbered(number: u8) -> Refusal {
         Refusal { number, jam: None }
     }
-}
 
-impl Gap {
-    /// `stuck` or `clean`.
-    pub(crate) fn mark(&self) -> &'static str {
-        if self.stuck { "stuck" } else { "clean" }
-    }
-}
-
-impl fmt::Display for Jam {
-    fn fmt<W: fmt::Write>(&self, f: &mut fmt::Formatter<W>) -> fmt::Result {
-        let Jam {
+    /// A refusal for a fault.
+    pub(crate) fn jammed(number: u8, fault: Fault) -> Refusal {
+        Refusal {
             number,
-            code,
-            depth,
-            from,
-            to,
-        } = *self;
-        write!(f, "{number} {code} {depth} {from} {to}")
+            jam: Some(fault),
+        }
     }
 }
 
-impl fmt::Display for Gap {
+/// `stuck` or `clean`.
+pub(crate) fn mark(gap: ClosedGap) -> &'static str {
+    if gap.stuck { "stuck" } else { "clean" }
+}
+
+impl fmt::Display for GapText {
     fn fmt<W: fmt::Write>(&self, f: &mut fmt::Formatter<W>) -> fmt::Result {
-        let mark = self.mark();
-        let Gap {
+        let mark = mark(self.0);
+        let ClosedGap {
             length,
             energy,
             floor,
             from,
             latency,
             ..
-        } = *self;
+        } = self.0;
         write!(f, "{length} {mark} {energy} {floor} {from} {latency}")
     }
 }

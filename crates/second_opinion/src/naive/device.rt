@@ -1,19 +1,11 @@
 //! A device as its meaning: levels, state, held count, parts and whether it is settled. Each make only says how these
 //! come from those of the devices below; the commands are the same for all.
-use crate::naive::answer::{Jam, Refusal};
+use crate::naive::answer::Refusal;
 use crate::naive::early::Early;
 use crate::naive::table;
 use crate::naive::table::Level;
-use devices::Rail;
+use devices::{Fault, Part, Rail};
 use std::alloc::{AllocError, Global};
-
-/// A basic device in a pile.
-#[derive(Clone, Copy, Debug, PartialEq, Eq)]
-pub struct Part {
-    pub number: u16,
-    pub code: u32,
-    pub depth: u8,
-}
 
 /// A device of any make.
 #[derive(Debug, Drop)]
@@ -25,13 +17,11 @@ pub struct Device {
     settled: bool,
 }
 
-impl Part {
-    /// The part as seen from one layer further up.
-    fn layered(&self) -> Part {
-        Part {
-            depth: self.depth.saturating_add(1),
-            ..*self
-        }
+/// A part as seen from one layer further up.
+fn layered(part: &Part) -> Part {
+    Part {
+        depth: part.depth.saturating_add(1),
+        ..*part
     }
 }
 
@@ -63,7 +53,7 @@ impl Device {
             levels,
             state: lower.state,
             held: lower.held,
-            parts: lower.parts.iter().map(|part| part.layered()).collect(heap)?,
+            parts: lower.parts.iter().map(layered).collect(heap)?,
             settled,
         })
     }
@@ -81,7 +71,7 @@ impl Device {
             levels: table::joined(heap, first.levels(), second.levels(), rail)?,
             state,
             held: first.held.min(second.held),
-            parts: parts.map(|part| part.layered()).collect(heap)?,
+            parts: parts.map(layered).collect(heap)?,
             settled: first.settled
                 && second.settled
                 && first.state == state.min(first.deepest())
@@ -128,16 +118,16 @@ impl Device {
     fn go(&mut self, to: u8) -> Result<(), Refusal> {
         let from = self.state;
         match self.fault() {
-            Some(part) if from != to => Err(Refusal {
-                number: 43,
-                jam: Some(Jam {
+            Some(part) if from != to => Err(Refusal::jammed(
+                43,
+                Fault {
                     number: part.number,
                     code: part.code,
                     depth: part.depth,
                     from,
                     to,
-                }),
-            }),
+                },
+            )),
             _ => {
                 self.state = to;
                 Ok(())

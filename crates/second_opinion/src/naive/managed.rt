@@ -1,10 +1,10 @@
 //! The manager: a gap is the list of its ticks, and the figures are summed up from the lists when they are asked for.
 //! `second` has its own: two independent opinions.
-use crate::naive::answer::{Answer, Gap, Refusal};
+use crate::naive::answer::{Answer, Refusal};
 use crate::naive::device::Device;
 use crate::naive::early::Early;
 use crate::naive::table;
-use manager::Step;
+use manager::{ClosedGap, Step, Ticked};
 use samples::Figures;
 use std::alloc::{AllocError, Global};
 
@@ -21,7 +21,7 @@ pub struct Manager {
     /// The states of all idle ticks, and of all busy ones.
     idle_ticks: Vec<u8>,
     busy_ticks: Vec<u8>,
-    closed: Vec<Gap>,
+    closed: Vec<ClosedGap>,
 }
 
 /// Whether a device may be attached, or the refusal of one that may not.
@@ -95,7 +95,7 @@ impl Manager {
                 (self.gap.len() as u64).wrapping_add(1),
             )
         };
-        let (energy, jam) = match self.device.hold(wanted) {
+        let (energy, fault) = match self.device.hold(wanted) {
             Err(Refusal { number: 43, jam }) => {
                 self.mark = true;
                 (self.device.hold(self.device.state())?, jam)
@@ -109,12 +109,16 @@ impl Manager {
             self.gap.push(state)?;
             self.idle_ticks.push(state)?;
         }
-        Ok(Answer::Ticked { state, energy, jam })
+        Ok(Answer::Ticked(Ticked {
+            state,
+            energy,
+            fault,
+        }))
     }
 
     /// Closes the open gap, whose device was woken from a state with an energy.
     fn close(&mut self, from: u8, wake: u32) -> Result<Answer, AllocError> {
-        let gap = Gap {
+        let gap = ClosedGap {
             length: count(self.gap.as_slice()),
             energy: self
                 .drawn(self.gap.as_slice())
@@ -174,10 +178,9 @@ impl Manager {
 
     /// Works one call.
     pub(crate) fn take(&mut self, step: Step) -> Result<Answer, Early<Refusal>> {
-        if let Step::Figures = step {
-            return Ok(Answer::Shown(self.figures()));
+        if step != Step::Figures {
+            self.attached?;
         }
-        self.attached?;
         // Calls are drawn as data, which the library and this code get, and no closures.
         match step {
             Step::Tick => self.tick(),

@@ -1,5 +1,5 @@
 //! The report of a trace.
-use crate::naive::answer::{Answer, Refusal};
+use crate::naive::answer::{Answer, GapText, Refusal};
 use crate::naive::device::Device;
 use crate::naive::early;
 use crate::naive::early::Early;
@@ -106,7 +106,10 @@ impl Run {
     fn request(&mut self, place: usize, number: u16, note: Note) -> Result<(), Early<Refusal>> {
         self.check_number(number)?;
         match self.manager.take(Step::Request) {
-            Ok(Answer::Closed { gap, .. }) => writeln!(self.text, "gap {gap} {note}")?,
+            Ok(Answer::Closed { gap, .. }) => {
+                let gap = GapText(gap);
+                writeln!(self.text, "gap {gap} {note}")?;
+            }
             Err(Early::Refused(Refusal { jam: Some(jam), .. })) => {
                 self.jams = self.jams.wrapping_add(1);
                 writeln!(self.text, "jam {place} {jam}")?;
@@ -165,15 +168,16 @@ impl Run {
         let mut place = records.place();
         let mut next = records.next().map_err(|refusal| refusal.at(place))?;
         self.start().map_err(|early| early.at(0))?;
+        // One record is read already, and each other takes at least four bytes: the break comes before the count is out.
         for _ in 0..=records.left() {
             let Some(record) = next else {
-                return self.end(records);
+                break;
             };
             self.work(place, record).map_err(|early| early.at(place))?;
             place = records.place();
             next = records.next().map_err(|refusal| refusal.at(place))?;
         }
-        Ok(())
+        self.end(records)
     }
 }
 

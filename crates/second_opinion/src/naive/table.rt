@@ -3,7 +3,7 @@ use crate::naive::answer::Refusal;
 use devices::Rail;
 use std::alloc::{AllocError, Global};
 
-/// Power, wake energy and latency of a state.
+/// Power, wake energy and latency of a state. Like the library's row, but a type of its own, since its rules are written anew.
 #[derive(Clone, Copy, Debug, Default, PartialEq, Eq)]
 pub struct Level {
     pub power: u32,

@@ -29,11 +29,11 @@ pub enum Record<'a> {
     Report { number: u16, code: u32 },
 }
 
-/// A trace, the place up to which it was read, and the kind of the last record, if there was one.
+/// The bytes that are left of a trace, the offset where they start, and the kind of the last record, if there was one.
 #[derive(Clone, Copy, Debug)]
 pub struct Records<'a> {
-    trace: &'a [u8],
-    place: usize,
+    rest: &'a [u8],
+    offset: usize,
     before: Option<Kind>,
 }
 
@@ -127,40 +127,43 @@ impl<'a> Records<'a> {
     /// The records of a trace, none of which is read yet.
     pub(crate) fn new(trace: &'a [u8]) -> Records<'a> {
         Records {
-            trace,
-            place: 0,
+            rest: trace,
+            offset: 0,
             before: None,
         }
     }
 
     /// The place of the next record.
     pub(crate) fn place(&self) -> usize {
-        self.place
+        self.offset
     }
 
     /// How many bytes are not read yet.
     pub(crate) fn left(&self) -> usize {
-        self.trace.len().saturating_sub(self.place)
+        self.rest.len()
     }
 
     /// Reads the next record, none for the end. A record that is refused is not read.
     pub(crate) fn next(&mut self) -> Result<Option<Record<'a>>, Refusal> {
         let cut_short = Refusal::numbered(1);
-        let rest = self.trace.get(self.place..).ok_or(cut_short)?;
-        let [length_low, length_high, kind_low, kind_high, behind @ ..] = rest else {
+        let [length_low, length_high, kind_low, kind_high, behind @ ..] = self.rest else {
             return Err(cut_short);
         };
         let length = usize::from(u16::from_le_bytes([*length_low, *length_high]));
         if length < 2 {
             return Err(Refusal::numbered(3));
         }
-        let body = behind.get(..length - 2).ok_or(cut_short)?;
+        if length - 2 > behind.len() {
+            return Err(cut_short);
+        }
+        let (body, rest) = behind.split_at(length - 2);
         let kind = Kind::numbered(u16::from_le_bytes([*kind_low, *kind_high]))?;
         if !kind.may_follow(self.before) {
             return Err(Refusal::numbered(4));
         }
         let record = content(kind, body)?;
-        self.place = self.place.wrapping_add(2).wrapping_add(length);
+        self.rest = rest;
+        self.offset = self.offset.wrapping_add(2).wrapping_add(length);
         self.before = Some(kind);
         Ok(record)
     }
