@@ -40,6 +40,8 @@ fn attach<D: Device + Drop>(
 fn face<D: Device + Drop>(report: &mut Report<'_>, number: u16, device: D) -> Result<(), AllocError>
     ensures { OnOk result (string_bytes report.new.text ≡ string_bytes report.old.text ++ lines.written (runs.told_of report.old.reader.ending (runs.facing number (D.StateTable.table device) (D.Device.status device) report.old.reader.records))) }
 {
+    // Number and device are a manager only once a record is there to work. Where there is none, the rules still speak of
+    // what stands in the trace, so the clause names the table and the status and no manager.
     match report.next_or_stop()? {
         Some(first) => attach(report, number, device, first),
         None => Ok(()),
