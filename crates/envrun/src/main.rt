@@ -1,8 +1,10 @@
 //! Works the trace on the standard input through a manager, and prints the report. A refused trace is a report too.
 #![tactic(auto)]
 
-ghost use Rattle.std.specs.Prelude.{◌≤◌, IfOk, vec_len};
+ghost use Rattle.std.specs.Prelude.{◌≡◌, ◌≤◌, take, IfOk, IfSome, vec_len};
+ghost use Rattle.std.specs.Option.{option_map};
 
+use std::alloc::Global;
 use std::io;
 use std::io::{Read, Write};
 use std::process::ExitCode;
@@ -10,13 +12,22 @@ use std::process::ExitCode;
 /// As many bytes show that a trace is too long.
 const ENOUGH: usize = 65_537;
 
+/// What a reader gives, to its end or as far as shows that it is too long. The bytes of a standard input are not known to a
+/// clause; those of other readers are, and the proof is one for all.
+fn read_enough<R: Read + Drop>(heap: Global, input: R) -> io::Result<Vec<u8>>
+    ensures { IfOk result (λ bytes. IfSome (option_map (take 65537) (R.Read.remaining input)) (λ known. bytes.items ≡ known)) }
+{
+    let mut bytes = Vec::new(heap);
+    input.take(ENOUGH as u64).read_to_end(&mut bytes)?;
+    Ok(bytes)
+}
+
 /// The standard input, to its end or as far as shows that it is too long.
 fn read_trace(rt: &HostRuntime) -> io::Result<Vec<u8>>
     ensures { IfOk result (λ bytes. vec_len bytes ≤ 65537) }
 {
-    let mut bytes = Vec::new(rt.alloc());
-    rt.stdin().take(ENOUGH as u64).read_to_end(&mut bytes)?;
-    // No more was read, but no clause of the library says so.
+    let mut bytes = read_enough(rt.alloc(), rt.stdin())?;
+    // No more was read, but of an input whose bytes are not known no clause of the library says so.
     bytes.truncate(ENOUGH);
     Ok(bytes)
 }

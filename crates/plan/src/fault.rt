@@ -22,7 +22,7 @@ pub enum RowFault {
 }
 
 /// Why there is no plan.
-#[derive(Clone, Copy, Debug, PartialEq, Eq)]
+#[derive(Clone, Copy, PartialEq, Eq)]
 pub enum Fault {
     /// A line, counted from 1, that is no row.
     Line(usize, RowFault),
@@ -78,6 +78,13 @@ impl fmt::Display for Fault {
             }
             Fault::Memory => write!(f, "out of memory"),
         }
+    }
+}
+
+// By hand: a `main` that returns a fault prints it so, and that line is its text.
+impl fmt::Debug for Fault {
+    fn fmt<W: fmt::Write>(&self, f: &mut fmt::Formatter<W>) -> fmt::Result {
+        write!(f, "{self}")
     }
 }
 

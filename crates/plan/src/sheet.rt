@@ -1,5 +1,6 @@
 //! Rows as they are read: a sheet is a state table.
 ghost use Rattle.std.specs.Prelude.{◌≡◌, ◌≤◌, [], length};
+ghost use Rattle.states.specs.Table.{at};
 ghost use Rattle.plan.specs.Sheets.{sheet_table, Added, Blamed};
 
 use crate::fault::Fault;
@@ -44,12 +45,24 @@ impl Sheet {
     pub fn add(&mut self, line: usize, text: &str) -> Result<(), Fault>
         ensures added { Added line text.now self.old self.new result }
         ensures why { Blamed text.now result }
+        ensures few { length self.new ≤ 16 }
     {
         if self.rows.len() >= MAX_ROWS {
             return Err(Fault::TooManyRows(line));
         }
         let row = parse_row(text).map_err(|why| Fault::Line(line, why))?;
         self.rows.push(row).map_err(|_| Fault::Memory)
+    }
+
+    /// The row of a state; the deepest where the state lies beyond it.
+    pub fn row(&self, state: u8) -> Row
+        ensures { result ≡ at (sheet_table self.now) state }
+    {
+        let place = self.deepest().min(state);
+        self.rows
+            .get(usize::from(place))
+            .copied()
+            .unwrap_or_default()
     }
 }
 
@@ -75,13 +88,5 @@ impl StateTable for Sheet {
 
     fn latency(&self, state: u8) -> u32 {
         self.row(state).latency
-    }
-
-    fn row(&self, state: u8) -> Row {
-        let place = self.deepest().min(state);
-        self.rows
-            .get(usize::from(place))
-            .copied()
-            .unwrap_or_default()
     }
 }

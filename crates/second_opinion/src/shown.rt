@@ -7,7 +7,7 @@ use crate::naive::managed::Manager;
 use crate::{library, twin};
 use devices::TableDevice;
 use manager::{Step, replies_to};
-use samples::{MODEM, PART, RECEIVER, STUCK_GAP, receiver_gap};
+use samples::{MODEM, PART, RECEIVER, STUCK_GAP};
 use std::alloc::AllocError;
 use std::io;
 
@@ -47,6 +47,20 @@ pub(crate) fn show_stuck(rt: &HostRuntime, bench: &Bench) -> io::Result<()> {
     Ok(())
 }
 
+/// The energy of a gap on powers 1 and 0 and wake energies 0 and 5, where each tick's state is chosen by the costs so
+/// many ticks before it. `samples` has a formula for the same, which `second` shows: the two programs share no rule.
+fn late_gap(ticks: u32, late: u32) -> u64 {
+    let mut energy = 0u64;
+    let mut deep = false;
+    for n in 1..=ticks {
+        deep = 5 < n.saturating_sub(late);
+        if !deep {
+            energy = energy.wrapping_add(1);
+        }
+    }
+    if deep { energy.wrapping_add(5) } else { energy }
+}
+
 /// Powers 1 and 0, wake energies 0 and 5, a gap of 7: choosing each tick's state by the costs at the tick before, which
 /// is a mistake, draws more than twice the floor of 5.
 pub(crate) fn show_mistake(rt: &HostRuntime, bench: &Bench) -> io::Result<()> {
@@ -64,7 +78,7 @@ pub(crate) fn show_mistake(rt: &HostRuntime, bench: &Bench) -> io::Result<()> {
         if let Ok(Answer::Closed { gap, .. }) = *answer {
             let right = gap.energy;
             let twice = gap.floor.saturating_mul(2);
-            let wrong = receiver_gap(7, 1);
+            let wrong = late_gap(7, 1);
             println!(rt;
                 "a gap of 7: {right}, by the costs at the tick before {wrong}, twice the floor {twice}"
             )?;

@@ -8,7 +8,7 @@ use crate::tried::{Tried, more};
 use crate::{calls, library, naive};
 use devices::{Device, Joined, LatencyLimit, Rail, TableDevice};
 use manager::{Step, replies_to};
-use states::StateTable;
+use states::{Row, StateTable};
 use std::alloc::{AllocError, Global};
 
 /// The two devices.
@@ -92,11 +92,30 @@ impl<D: Device + Drop> Twin<D> {
         tried.questions.note(same);
     }
 
+    /// Whether both tell the same of what would refuse a hold of a state, or a wake.
+    fn same_bars(&self, state: u8) -> bool {
+        self.device.may_hold(state).map_err(Refusal::from) == self.plain.may_hold(state)
+            && self.device.may_wake().map_err(Refusal::from) == self.plain.may_wake()
+    }
+
+    /// Whether both tell the same row of a state.
+    fn same_row(&self, state: u8) -> bool {
+        let Row {
+            power,
+            wake,
+            latency,
+        } = self.device.row(state);
+        let level = self.plain.level(state);
+        power == level.power && wake == level.wake && latency == level.latency
+    }
+
     /// Asks for everything that a device can tell.
     pub(crate) fn ask(&self, bench: &mut Bench) {
         let far = bench.random.byte();
         let tried = &mut bench.tried;
         let deepest = self.plain.deepest();
+        // A state of the table, or one beyond the deepest.
+        let near = far % deepest.saturating_add(2);
         tried.questions.note(self.device.deepest() == deepest);
         tried
             .questions
@@ -104,12 +123,8 @@ impl<D: Device + Drop> Twin<D> {
         tried
             .questions
             .note(self.device.held_count() == self.plain.held());
-        tried
-            .questions
-            .note(self.device.settled() == self.plain.settled());
-        tried
-            .questions
-            .note(self.device.fault() == self.plain.fault());
+        tried.questions.note(self.device.settled() == self.plain.settled() && self.same_bars(near));
+        tried.questions.note(self.device.fault() == self.plain.fault() && self.same_row(far));
         for state in 0..=deepest.saturating_add(1) {
             self.ask_level(tried, state);
         }

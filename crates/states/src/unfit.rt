@@ -2,15 +2,15 @@
 ghost use Rattle.std.specs.Prelude.{◌≡◌};
 ghost use Rattle.states.specs.Fit.{unfit_number};
 
-/// Why a table is not fit, by the number of the refusal.
+/// Why a table is not fit.
 #[derive(Clone, Copy, Debug, PartialEq, Eq)]
 pub enum Unfit {
     /// Fewer than two states, or more than sixteen.
-    StateCount = 12,
+    StateCount,
     /// A number above its maximum.
-    Number = 13,
+    Number,
     /// State 0 has a wake energy or a latency, or a state is not deeper than the one before it.
-    Order = 14,
+    Order,
 }
 
 impl Unfit {
@@ -18,6 +18,11 @@ impl Unfit {
     pub fn number(self) -> u8
         ensures { result ≡ unfit_number self }
     {
-        self as u8
+        // No numbers at the cases: who casts one by `as` gets its place among them.
+        match self {
+            Unfit::StateCount => 12,
+            Unfit::Number => 13,
+            Unfit::Order => 14,
+        }
     }
 }

@@ -190,11 +190,15 @@ from_whole =
     closed Ended n [] done e = record { proper = tt; fitting = tt; order = refl; bytes = refl }
     closed st n bs done e = absurd cc
 
-pub only_written : (bs : List ℕ) → ((i : ℕ) → Fits w8 (get_or bs i 0)) → OnlyWritten bs
+pub only_written : (bs : List ℕ) → Bytes bs → OnlyWritten bs
 unfolding reading
-only_written bs fits =
+only_written bs bytes =
     cond_both (ltb 65536 (length bs)) _ _ (λ (r : Reading). r.ending ≡ whole → Sound (items r) × (bs ≡ written (items r)))
     (λ _ e. absurd cc)
     (λ short e.
-    let f = from_whole Start 0 bs (All-from_get_or _ bs 0 (λ i _. omega (arith, fits i))) e in
+    let f = from_whole Start 0 bs bytes e in
     (record { proper = f.proper; fitting = f.fitting; order = in_words _ f.order; short = omega (arith, ap length f.bytes, ltb-false 65536 (length bs) short) }, f.bytes))
+
+-- the same, where bytes are known place by place, as those of a slice are
+pub only_written_by_place : (bs : List ℕ) → ((i : ℕ) → Fits w8 (get_or bs i 0)) → OnlyWritten bs
+only_written_by_place bs fits = only_written bs (All-from_get_or _ bs 0 (λ i _. omega (arith, fits i)))

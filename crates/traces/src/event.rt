@@ -21,19 +21,19 @@ pub struct Record<'a> {
     pub event: Event<'a>,
 }
 
-/// Why a trace is refused, by its number.
+/// Why a trace is refused.
 #[derive(Clone, Copy, Debug, PartialEq, Eq)]
 pub enum Fault {
     /// The bytes end before a record is complete, or without an end record.
-    Cut = 1,
+    Cut,
     /// The kind is not known.
-    UnknownKind = 2,
+    UnknownKind,
     /// The length is below 2, or the body is wrong.
-    Malformed = 3,
+    Malformed,
     /// The kind may not stand here, or bytes follow the end record.
-    OutOfOrder = 4,
+    OutOfOrder,
     /// The trace has too many bytes.
-    TooLong = 5,
+    TooLong,
 }
 
 impl Fault {
@@ -41,7 +41,14 @@ impl Fault {
     pub fn number(self) -> u8
         ensures { result ≡ told self }
     {
-        self as u8
+        // No numbers at the cases: who casts one by `as` gets its place among them.
+        match self {
+            Fault::Cut => 1,
+            Fault::UnknownKind => 2,
+            Fault::Malformed => 3,
+            Fault::OutOfOrder => 4,
+            Fault::TooLong => 5,
+        }
     }
 }
 

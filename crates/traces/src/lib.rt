@@ -13,7 +13,7 @@ use crate::event::Refusal;
 use crate::reader::Reader;
 
 /// How many records a trace has, or its first refusal.
-#[tactic(auto, using(crate::proofs::Inverse::reads_back, crate::proofs::Inverse::only_written, crate::proofs::Steps::few_records))]
+#[tactic(auto, using(crate::proofs::Inverse::reads_back, crate::proofs::Inverse::only_written_by_place, crate::proofs::Steps::few_records))]
 pub fn check(trace: &[u8]) -> Result<usize, Refusal>
     ensures value { Counts result (reading trace.now) }
     ensures back { ReadsBack }

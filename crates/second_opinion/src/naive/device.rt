@@ -114,8 +114,8 @@ impl Device {
         self.parts.iter().find(|part| part.code != 0).copied()
     }
 
-    /// Goes to a state, which a faulty part refuses if it is another.
-    fn go(&mut self, to: u8) -> Result<(), Refusal> {
+    /// Whether it may go to a state, which a faulty part refuses if it is another.
+    fn may_go(&self, to: u8) -> Result<(), Refusal> {
         let from = self.state;
         match self.fault() {
             Some(part) if from != to => Err(Refusal::jammed(
@@ -128,33 +128,42 @@ impl Device {
                     to,
                 },
             )),
-            _ => {
-                self.state = to;
-                Ok(())
-            }
+            _ => Ok(()),
         }
     }
 
-    /// Holds a state for one tick.
-    pub(crate) fn hold(&mut self, state: u8) -> Result<u32, Refusal> {
+    /// Whether it may hold a state.
+    pub(crate) fn may_hold(&self, state: u8) -> Result<(), Refusal> {
         if !self.settled {
             return Err(Refusal::numbered(41));
         }
         if state < self.state || state > self.deepest() {
             return Err(Refusal::numbered(42));
         }
-        self.go(state)?;
+        self.may_go(state)
+    }
+
+    /// Whether it may be woken.
+    pub(crate) fn may_wake(&self) -> Result<(), Refusal> {
+        if !self.settled {
+            return Err(Refusal::numbered(41));
+        }
+        self.may_go(0)
+    }
+
+    /// Holds a state for one tick.
+    pub(crate) fn hold(&mut self, state: u8) -> Result<u32, Refusal> {
+        self.may_hold(state)?;
+        self.state = state;
         self.held = self.held.saturating_add(1);
         Ok(self.level(state).power)
     }
 
     /// Goes back to state 0.
     pub(crate) fn wake(&mut self) -> Result<u32, Refusal> {
-        if !self.settled {
-            return Err(Refusal::numbered(41));
-        }
+        self.may_wake()?;
         let left = self.state;
-        self.go(0)?;
+        self.state = 0;
         Ok(self.level(left).wake)
     }
 

@@ -5,6 +5,7 @@ use crate::naive::early;
 use crate::naive::early::Early;
 use crate::naive::managed::Manager;
 use crate::naive::trace::{Note, Record, Records};
+use devices::Fault;
 use manager::Step;
 use std::alloc::{AllocError, Global};
 use std::fmt;
@@ -102,6 +103,18 @@ impl Run {
         Ok(())
     }
 
+    /// Adds a jam line. It is written field by field: the text that the library gives a fault is what is compared with it.
+    fn add_jam(&mut self, place: usize, jam: Fault) -> Result<(), AllocError> {
+        let Fault {
+            number,
+            code,
+            depth,
+            from,
+            to,
+        } = jam;
+        writeln!(self.text, "jam {place} {number} {code} {depth} {from} {to}")
+    }
+
     /// Works a request, and adds a gap line, or a jam line where a fault holds the device up.
     fn request(&mut self, place: usize, number: u16, note: Note) -> Result<(), Early<Refusal>> {
         self.check_number(number)?;
@@ -112,7 +125,7 @@ impl Run {
             }
             Err(Early::Refused(Refusal { jam: Some(jam), .. })) => {
                 self.jams = self.jams.wrapping_add(1);
-                writeln!(self.text, "jam {place} {jam}")?;
+                self.add_jam(place, jam)?;
             }
             answer => {
                 answer?;
